@@ -3,6 +3,8 @@ use Rattle.std.proofs.Common.{◌≡◌, ℕ, List, Option, Result, Ok, Err, OnE
 use Rattle.std.proofs.KnownBytes.{Keeps-refl}
 use Rattle.heap_layout.specs.declared.edition.Edition.{Edition}
 use Rattle.comp_dump.specs.Dumped.{BuiltPage, Dumped}
+use Rattle.comp_dump.specs.declared.fault.DumpFault.TheVariants.{Truncated, TrailingBytes, BadMagic, BadField, Device}
+use Rattle.comp_dump.specs.declared.fault.DumpFault.TheVariants as faults
 use Rattle.command_io.specs.Disk.{Disk, IsUnkept}
 use Rattle.command_io.specs.Dumps.{IsOfDumping, RefusedUncreated}
 use Rattle.command_io.specs.NewImages.{IsOfWritingImage, RefusedUnmade}
@@ -31,8 +33,8 @@ uncounted_by old new (BadRoots line) same other = same
 uncounted_by old new OutOfMemory same other = same
 
 -- a refusal for the dump is not one for the output
-pub uncounted_dump : {F W : Type 0} (disk : Disk F W) (path bytes : List ℕ) (n : ℕ) (refusal : CommandRefusal) → IsOfDumping disk path bytes refusal → CountsPrint {T = Unit {0}} n n (Err refusal)
-uncounted_dump disk path bytes n refusal h = uncounted_by n n refusal refl (λ e. subst (IsOfDumping disk path bytes) e h)
+pub uncounted_dump : {F W : Type 0} (disk : Disk F W) (path bytes : List ℕ) (to : F) (n : ℕ) (refusal : CommandRefusal) → IsOfDumping disk path bytes to refusal → CountsPrint {T = Unit {0}} n n (Err refusal)
+uncounted_dump disk path bytes to n refusal h = uncounted_by n n refusal refl (λ e. subst (IsOfDumping disk path bytes to) e h)
 
 -- what was not printed leaves the output as it was
 pub unprinted : (before : Option (List ℕ)) (refusal : CommandRefusal) → RefusedUnprinted {T = Unit {0}} before before (Err refusal)
@@ -73,24 +75,29 @@ uncreated disk files (BadRoots line) = refl
 uncreated disk files OutOfMemory = inl refl
 
 -- a refusal for the dump, which was not kept
-pub uncreated_by : {F W : Type 0} (disk : Disk F W) (path bytes : List ℕ) (from to : F) (refusal : CommandRefusal) → IsUnkept disk from to → IsOfDumping disk path bytes refusal
+pub uncreated_by : {F W : Type 0} (disk : Disk F W) (path bytes : List ℕ) (from to : F) (refusal : CommandRefusal) → (refusal ≡ OutOfMemory → IsUnkept disk from to) → IsOfDumping disk path bytes to refusal
     → RefusedUncreated {T = Unit {0}} disk from to (Err refusal)
 uncreated_by disk path bytes from to (Layout fault) unkept h = absurd h
 uncreated_by disk path bytes from to (Mutator refused) unkept h = absurd h
 uncreated_by disk path bytes from to (Sweep fault) unkept h = absurd h
 uncreated_by disk path bytes from to (Trace fault) unkept h = absurd h
-uncreated_by disk path bytes from to (Dump fault) unkept h = unkept
+uncreated_by disk path bytes from to (Dump Device) unkept h = inr h.counted
+uncreated_by disk path bytes from to (Dump Truncated) unkept h = absurd h
+uncreated_by disk path bytes from to (Dump TrailingBytes) unkept h = absurd h
+uncreated_by disk path bytes from to (Dump BadMagic) unkept h = absurd h
+uncreated_by disk path bytes from to (Dump BadField) unkept h = absurd h
+uncreated_by disk path bytes from to (Dump faults.OutOfMemory) unkept h = absurd h
 uncreated_by disk path bytes from to (Audit fault) unkept h = absurd h
 uncreated_by disk path bytes from to (Moved fault) unkept h = absurd h
 uncreated_by disk path bytes from to (CannotWrite output) unkept h = absurd h
 uncreated_by disk path bytes from to (CannotOpen input) unkept h = absurd h
-uncreated_by disk path bytes from to (CannotCreate output) unkept h = unkept
+uncreated_by disk path bytes from to (CannotCreate output) unkept h = inr h.2
 uncreated_by disk path bytes from to (ReadFailed input) unkept h = absurd h
 uncreated_by disk path bytes from to CannotPrint unkept h = tt
 uncreated_by disk path bytes from to (NoSuchWord index) unkept h = absurd h
 uncreated_by disk path bytes from to (BadMarks line) unkept h = absurd h
 uncreated_by disk path bytes from to (BadRoots line) unkept h = absurd h
-uncreated_by disk path bytes from to OutOfMemory unkept h = unkept
+uncreated_by disk path bytes from to OutOfMemory unkept h = unkept refl
 
 -- a call of the output failed
 pub created_line : {F W : Type 0} (disk : Disk F W) (from to : F) (result : Result (Unit {0}) CommandRefusal) → OnErr result (result ≡ Err CannotPrint) → RefusedUncreated disk from to result
@@ -124,9 +131,9 @@ pub unmade : {F W : Type 0} (disk : Disk F W) (files : F) (refusal : CommandRefu
 unmade disk files refusal = unmade_too disk files files (Err refusal) (uncreated disk files refusal)
 
 -- a refusal for the new image, which was not kept
-pub unmade_by : {F W : Type 0} (disk : Disk F W) (path bytes : List ℕ) (from to : F) (refusal : CommandRefusal) → IsUnkept disk from to → IsOfWritingImage disk path bytes refusal
+pub unmade_by : {F W : Type 0} (disk : Disk F W) (path bytes : List ℕ) (from to : F) (refusal : CommandRefusal) → (refusal ≡ OutOfMemory → IsUnkept disk from to) → IsOfWritingImage disk path bytes to refusal
     → RefusedUnmade {T = Unit {0}} disk from to (Err refusal)
-unmade_by disk path bytes from to (Layout fault) unkept h = inr (h.0, unkept)
+unmade_by disk path bytes from to (Layout fault) unkept h = inr (h.0, h.1.counted)
 unmade_by disk path bytes from to (Mutator refused) unkept h = absurd h
 unmade_by disk path bytes from to (Sweep fault) unkept h = absurd h
 unmade_by disk path bytes from to (Trace fault) unkept h = absurd h
@@ -135,24 +142,24 @@ unmade_by disk path bytes from to (Audit fault) unkept h = absurd h
 unmade_by disk path bytes from to (Moved fault) unkept h = absurd h
 unmade_by disk path bytes from to (CannotWrite output) unkept h = absurd h
 unmade_by disk path bytes from to (CannotOpen input) unkept h = absurd h
-unmade_by disk path bytes from to (CannotCreate output) unkept h = unkept
+unmade_by disk path bytes from to (CannotCreate output) unkept h = inr h.2
 unmade_by disk path bytes from to (ReadFailed input) unkept h = absurd h
 unmade_by disk path bytes from to CannotPrint unkept h = tt
 unmade_by disk path bytes from to (NoSuchWord index) unkept h = absurd h
 unmade_by disk path bytes from to (BadMarks line) unkept h = absurd h
 unmade_by disk path bytes from to (BadRoots line) unkept h = absurd h
-unmade_by disk path bytes from to OutOfMemory unkept h = unkept
+unmade_by disk path bytes from to OutOfMemory unkept h = unkept refl
 
 -- a call of the output failed
 pub unmade_line : {F W : Type 0} (disk : Disk F W) (from to : F) (result : Result (Unit {0}) CommandRefusal) → OnErr result (result ≡ Err CannotPrint) → RefusedUnmade disk from to result
 unmade_line disk from to result h = unmade_too disk from to result (created_line disk from to result h)
 
 -- a refusal for the new image is not one for the output
-pub uncounted_image : {F W : Type 0} (disk : Disk F W) (path bytes : List ℕ) (n : ℕ) (refusal : CommandRefusal) → IsOfWritingImage disk path bytes refusal → CountsPrint {T = Unit {0}} n n (Err refusal)
-uncounted_image disk path bytes n refusal h = uncounted_by n n refusal refl (λ e. subst (IsOfWritingImage disk path bytes) e h)
+pub uncounted_image : {F W : Type 0} (disk : Disk F W) (path bytes : List ℕ) (to : F) (n : ℕ) (refusal : CommandRefusal) → IsOfWritingImage disk path bytes to refusal → CountsPrint {T = Unit {0}} n n (Err refusal)
+uncounted_image disk path bytes to n refusal h = uncounted_by n n refusal refl (λ e. subst (IsOfWritingImage disk path bytes to) e h)
 
 -- a refusal for the picture, which was not kept
-pub unmade_map : {F W : Type 0} (disk : Disk F W) (path : List ℕ) (from to : F) (refusal : CommandRefusal) → IsUnkept disk from to → IsOfDrawing disk path refusal
+pub unmade_map : {F W : Type 0} (disk : Disk F W) (path : List ℕ) (from to : F) (refusal : CommandRefusal) → (refusal ≡ OutOfMemory → IsUnkept disk from to) → IsOfDrawing disk path to refusal
     → RefusedUnmade {T = Unit {0}} disk from to (Err refusal)
 unmade_map disk path from to (Layout fault) unkept h = absurd h
 unmade_map disk path from to (Mutator refused) unkept h = absurd h
@@ -161,19 +168,19 @@ unmade_map disk path from to (Trace fault) unkept h = absurd h
 unmade_map disk path from to (Dump fault) unkept h = absurd h
 unmade_map disk path from to (Audit fault) unkept h = absurd h
 unmade_map disk path from to (Moved fault) unkept h = absurd h
-unmade_map disk path from to (CannotWrite output) unkept h = unkept
+unmade_map disk path from to (CannotWrite output) unkept h = inr h.1.1.counted
 unmade_map disk path from to (CannotOpen input) unkept h = absurd h
-unmade_map disk path from to (CannotCreate output) unkept h = unkept
+unmade_map disk path from to (CannotCreate output) unkept h = inr h.2
 unmade_map disk path from to (ReadFailed input) unkept h = absurd h
 unmade_map disk path from to CannotPrint unkept h = tt
 unmade_map disk path from to (NoSuchWord index) unkept h = absurd h
 unmade_map disk path from to (BadMarks line) unkept h = absurd h
 unmade_map disk path from to (BadRoots line) unkept h = absurd h
-unmade_map disk path from to OutOfMemory unkept h = unkept
+unmade_map disk path from to OutOfMemory unkept h = unkept refl
 
 -- and it is not one for the output
-pub uncounted_map : {F W : Type 0} (disk : Disk F W) (path : List ℕ) (n : ℕ) (refusal : CommandRefusal) → IsOfDrawing disk path refusal → CountsPrint {T = Unit {0}} n n (Err refusal)
-uncounted_map disk path n refusal h = uncounted_by n n refusal refl (λ e. subst (IsOfDrawing disk path) e h)
+pub uncounted_map : {F W : Type 0} (disk : Disk F W) (path : List ℕ) (to : F) (n : ℕ) (refusal : CommandRefusal) → IsOfDrawing disk path to refusal → CountsPrint {T = Unit {0}} n n (Err refusal)
+uncounted_map disk path to n refusal h = uncounted_by n n refusal refl (λ e. subst (IsOfDrawing disk path to) e h)
 
 -- dumps that have the same parts are the same
 pub same_parts : (e e' : Edition) (m m' n n' t t' : ℕ) (r r' : List ℕ) (p p' : List (Option BuiltPage)) (b b' : List (List ℕ))

@@ -1,7 +1,7 @@
 -- What is known of the files that a command reads and makes.
-use Rattle.std.specs.Prelude.{◌≡◌, ◌⊎◌, ℕ, List, Option, None, true}
+use Rattle.std.specs.Prelude.{◌≡◌, ◌⊎◌, ℕ, List, Option, None, Result, Err}
 use Rattle.std.specs.Io.KnownBytes.{Appends}
-use Rattle.heap_layout.specs.Counted.{failures_of, inner_of, is_flushed_of}
+use Rattle.heap_layout.specs.Counted.{failures_of, inner_of}
 use Rattle.heap_layout.specs.declared.counted.Counted.{Counted}
 use Rattle.heap_layout.specs.Writing.{AppendsSome}
 use Rattle.command_io.specs.declared.refusal.Input.{Input}
@@ -23,8 +23,10 @@ pub record Disk (F W : Type 0) : Type 1 where
   pub contents : W → Option (List ℕ)
   -- these are the files once a file was begun that is not kept yet
   pub begins : F → Type 0
-  -- these are the files once what this writer has taken is kept at this path
-  pub puts : Output → List ℕ → W → F → Type 0
+  -- these are the files once all that this writer has taken is kept at this path
+  pub puts : Output → List ℕ → Counted W → F → Type 0
+  -- these are the files once so many calls of what they gave have failed, and nothing was kept
+  pub counts : ℕ → F → Type 0
 
 -- files of which nothing is known: anything may be read at a path, any writer may be given, any path may give none, and
 -- a file that is begun or kept may change anything
@@ -37,6 +39,7 @@ unknown = record {
   contents = λ _. None;
   begins = λ _. Unit {0};
   puts = λ _ _ _ _. Unit {0};
+  counts = λ _ _. Unit {0};
 }
 
 -- P holds of the bytes of some file that can be read at the path
@@ -55,25 +58,34 @@ IsOfCreating output bars (CannotCreate named) = (named ≡ output) × bars
 IsOfCreating output bars OutOfMemory = Unit {0}
 IsOfCreating output bars _ = ⊥
 
--- some writer that the path gives took all these bytes, no call of it failed, and it was flushed at the end; what it
--- took was kept at the path, and these are the files since
+-- what creating a file left of the files: it was begun, or a call failed, or memory ran out before there was a file
+abbrev pub AfterCreating : {F W : Type 0} → Disk F W → F → Result W CommandRefusal → Type 0
+AfterCreating disk to (Err (CannotCreate _)) = disk.counts 1 to
+AfterCreating disk to _ = disk.begins to
+
+-- some writer that the path gives took all these bytes, and no call of it failed; all that it took was kept at the path,
+-- and these are the files since
 pub record WritesWhole {F W : Type 0} (disk : Disk F W) (output : Output) (path bytes : List ℕ) (to : F) : Type 0 where
   pub made : W
   pub given : disk.makes output path made
   pub written : Counted W
   pub appended : Appends (disk.contents made) (disk.contents (inner_of written)) bytes
-  pub flushed : is_flushed_of written ≡ true
   pub none_failed : failures_of written ≡ 0
-  pub kept : disk.puts output path (inner_of written) to
+  pub kept : disk.puts output path written to
 
--- some writer that the path gives took a beginning of these bytes, and then one call of it failed
-pub record WritesBeginning {F W : Type 0} (disk : Disk F W) (output : Output) (path bytes : List ℕ) : Type 0 where
+-- some writer that the path gives took a beginning of these bytes, and then one call of it failed, which these files
+-- have counted
+pub record WritesBeginning {F W : Type 0} (disk : Disk F W) (output : Output) (path bytes : List ℕ) (to : F) : Type 0 where
   pub made : W
   pub given : disk.makes output path made
-  pub written : Counted W
-  pub appended : AppendsSome (disk.contents made) (disk.contents (inner_of written)) bytes
-  pub failed : failures_of written ≡ 1
+  pub written : W
+  pub appended : AppendsSome (disk.contents made) (disk.contents written) bytes
+  pub counted : disk.counts 1 to
 
 -- no file was begun, or one was begun and not kept: `from` are the files before, of which `disk` says what is known
 abbrev pub IsUnkept : {F W : Type 0} → Disk F W → F → F → Type 0
 IsUnkept disk from to = (to ≡ from) ⊎ disk.begins to
+
+-- the files are as they were, or one call of what they gave has failed, and nothing was kept
+abbrev pub IsCutOff : {F W : Type 0} → Disk F W → F → F → Type 0
+IsCutOff disk from to = (to ≡ from) ⊎ disk.counts 1 to

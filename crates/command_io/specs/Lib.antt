@@ -1,4 +1,7 @@
 pub mod Disk
+pub mod Counting
+pub mod Flushing
+pub mod Keeping
 pub mod Printing
 pub mod Images
 pub mod ImageParts

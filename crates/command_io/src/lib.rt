@@ -2,7 +2,9 @@
 #![tactic(auto)]
 
 mod dumps;
+mod flushed;
 mod images;
+mod keeping;
 mod marks;
 mod memory;
 mod new_images;
@@ -16,6 +18,7 @@ mod texts;
 mod traces;
 
 pub use dumps::write_dump_to;
+pub use flushed::Flushed;
 pub use images::{heap_at, parts_at};
 pub use marks::marks_at;
 pub use memory::{MemoryFile, MemoryFiles, written_is_there};

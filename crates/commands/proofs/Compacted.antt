@@ -43,8 +43,8 @@ module _ (workers : ℕ) (f : Finished) (dump : Dumped) (parts : IsDumpOf worker
     pub dumps : (to : F) → WritesWhole disk outputs.Dump path (dump_bytes dump) to → DumpsHeap disk path workers to heap
     dumps to w = (builds_in f, h.builds, subst (λ (d : Dumped). WritesWhole disk outputs.Dump path (dump_bytes d) to) same_dump w)
 
-    pub begins : WritesBeginning disk outputs.Dump path (dump_bytes dump) → BeginsDump disk path workers heap
-    begins w = (builds_in f, h.builds, subst (λ (d : Dumped). WritesBeginning disk outputs.Dump path (dump_bytes d)) same_dump w)
+    pub begins : (to : F) → WritesBeginning disk outputs.Dump path (dump_bytes dump) to → BeginsDump disk path workers to heap
+    begins to w = (builds_in f, h.builds, subst (λ (d : Dumped). WritesBeginning disk outputs.Dump path (dump_bytes d) to) same_dump w)
 
   pub same_total : dump.total ≡ live_words (live heap)
   same_total = parts.total ∙ h.total
@@ -80,7 +80,7 @@ module _ {F W : Type 0} (disk : Disk F W) (large : Bool) (image path : List ℕ)
 
   module _ (f : Finished) (dump : Dumped) (parts : IsDumpOf workers f dump) (swept : SomeHeapAt disk large image (IsSweptHeap workers f)) where
     -- its dump was not written
-    pub of_dumping : (refusal : CommandRefusal) → IsOfDumping disk path (dump_bytes dump) refusal → Refuses refusal
+    pub of_dumping : (refusal : CommandRefusal) → IsOfDumping disk path (dump_bytes dump) to refusal → Refuses refusal
     of_dumping (Layout fault) h = absurd h
     of_dumping (Mutator refused) h = absurd h
     of_dumping (Sweep fault) h = absurd h
@@ -90,12 +90,12 @@ module _ {F W : Type 0} (disk : Disk F W) (large : Bool) (image path : List ℕ)
     of_dumping (Dump BadMagic) h = absurd h
     of_dumping (Dump BadField) h = absurd h
     of_dumping (Dump faults.OutOfMemory) h = absurd h
-    of_dumping (Dump Device) h = (swept.0, swept.1, of_image large (IsSweptHeap workers f) (BeginsDump disk path workers) swept.0 (λ heap s. begins workers f dump parts heap s disk path h) swept.2)
+    of_dumping (Dump Device) h = (swept.0, swept.1, of_image large (IsSweptHeap workers f) (BeginsDump disk path workers to) swept.0 (λ heap s. begins workers f dump parts heap s disk path to h) swept.2)
     of_dumping (Audit fault) h = absurd h
     of_dumping (Moved fault) h = absurd h
     of_dumping (CannotWrite output) h = absurd h
     of_dumping (CannotOpen input) h = absurd h
-    of_dumping (CannotCreate output) h = (swept.0, swept.1, (h.0, h.1, of_image large (IsSweptHeap workers f) (WasSwept workers) swept.0 (λ heap s. (f, s)) swept.2))
+    of_dumping (CannotCreate output) h = (swept.0, swept.1, (h.0, h.1, h.2, of_image large (IsSweptHeap workers f) (WasSwept workers) swept.0 (λ heap s. (f, s)) swept.2))
     of_dumping (ReadFailed input) h = absurd h
     of_dumping CannotPrint h = absurd h
     of_dumping (NoSuchWord index) h = absurd h

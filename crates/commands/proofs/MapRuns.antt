@@ -19,7 +19,7 @@ use Rattle.commands.specs.Mapping.{audit_for, FailsMap, IsOfWritingMap, Maps, Re
 use Rattle.commands.proofs.Audited.{weaker}
 
 -- a refusal of the picture is one of the writing
-pub writing_map : {F W : Type 0} (disk : Disk F W) (path : List ℕ) (to : F) (refusal : CommandRefusal) → IsOfDrawing disk path refusal → IsOfWritingMap disk path to refusal
+pub writing_map : {F W : Type 0} (disk : Disk F W) (path : List ℕ) (to : F) (refusal : CommandRefusal) → IsOfDrawing disk path to refusal → IsOfWritingMap disk path to refusal
 writing_map disk path to (Layout fault) h = h
 writing_map disk path to (Mutator refused) h = h
 writing_map disk path to (Sweep fault) h = h

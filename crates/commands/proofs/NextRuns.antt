@@ -37,7 +37,7 @@ given_uncounted disk mutators asking.Reachable n refusal h = absurd h
 given_uncounted disk mutators (asking.ReachableFrom path) n refusal h = roots_uncounted disk path.now mutators n refusal h
 
 -- a refusal of the image is one of the writing
-pub writing_image : {F W : Type 0} (disk : Disk F W) (path bytes : List ℕ) (to : F) (refusal : CommandRefusal) → IsOfWritingImage disk path bytes refusal
+pub writing_image : {F W : Type 0} (disk : Disk F W) (path bytes : List ℕ) (to : F) (refusal : CommandRefusal) → IsOfWritingImage disk path bytes to refusal
     → IsOfWritingNext disk path bytes to refusal
 writing_image disk path bytes to (Layout fault) h = h
 writing_image disk path bytes to (Mutator refused) h = h

@@ -183,7 +183,7 @@ halted_unwritten (Ok _) files before after printed shown refused halted same is 
 halted_unwritten (Err refusal) files before after printed shown refused halted same is h = (refl, subst (λ (values : List Shown). IsOfHalt before after values halted refusal) same (subst (λ (r : CommandRefusal). IsOfHalt before after printed r refusal) is h))
 
 -- a refusal of the dump is one of the writing
-pub writing_of : {F W : Type 0} (disk : Disk F W) (path bytes : List ℕ) (to : F) (refusal : CommandRefusal) → IsOfDumping disk path bytes refusal
+pub writing_of : {F W : Type 0} (disk : Disk F W) (path bytes : List ℕ) (to : F) (refusal : CommandRefusal) → IsOfDumping disk path bytes to refusal
     → IsOfWritingRun disk path bytes to refusal
 writing_of disk path bytes to (Layout fault) h = h
 writing_of disk path bytes to (Mutator refused) h = h

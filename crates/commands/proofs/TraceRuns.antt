@@ -151,7 +151,7 @@ module _ {F W : Type 0} (way : Way) (disk : Disk F W) (asked : TraceRun) (from t
       of_writing left (Moved fault) w = absurd w
       of_writing left (CannotWrite output) w = absurd w
       of_writing left (CannotOpen input) w = absurd w
-      of_writing left (CannotCreate output) w = by_run (CannotCreate output) (w.0, w.1, left)
+      of_writing left (CannotCreate output) w = by_run (CannotCreate output) (w.0, w.1, w.2, left)
       of_writing left (ReadFailed input) w = absurd w
       of_writing left CannotPrint w = by_run CannotPrint (inl (left, w))
       of_writing left (NoSuchWord index) w = absurd w

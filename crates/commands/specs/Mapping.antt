@@ -42,7 +42,7 @@ FailsMap disk asked refusal = MatchOption asked.dump (RefusesAt disk asked.large
 -- why a picture was not written, or its line not printed: then a call of the output failed, which `CountsPrint` counts
 abbrev pub IsOfWritingMap : {F W : Type 0} → Disk F W → List ℕ → F → CommandRefusal → Type 0
 IsOfWritingMap disk path to CannotPrint = DrawsWhole disk path to
-IsOfWritingMap disk path to refusal = IsOfDrawing disk path refusal
+IsOfWritingMap disk path to refusal = IsOfDrawing disk path to refusal
 
 -- why the command is refused: there is nothing to draw, and the files stayed as they were; or there is, and the picture
 -- was not written, or its line not printed

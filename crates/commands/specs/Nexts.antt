@@ -41,7 +41,7 @@ pub record Nexts {F W : Type 0} (disk : Disk F W) (asked : NextRun) (to : F) (be
 -- `CountsPrint` counts; or memory ran out
 abbrev pub IsOfWritingNext : {F W : Type 0} → Disk F W → List ℕ → List ℕ → F → CommandRefusal → Type 0
 IsOfWritingNext disk path bytes to CannotPrint = WritesWhole disk outputs.New path bytes to
-IsOfWritingNext disk path bytes to refusal = IsOfWritingImage disk path bytes refusal
+IsOfWritingNext disk path bytes to refusal = IsOfWritingImage disk path bytes to refusal
 
 -- why the cycle does not come to its end, or is not written or printed: if its lines were halted, the files stayed as
 -- they were, and what the lines had shown was printed

@@ -1,7 +1,7 @@
 -- What a run over files in memory left there.
 use Rattle.std.proofs.Common.{◌≡◌, ◌≢◌, ℕ, List, Option, Result, Ok, Err, IfErr, OnOk, inl, inr, refl, subst}
 use Rattle.command_line.specs.declared.words.TraceRun.{TraceRun}
-use Rattle.command_io.specs.Disk.{IsUnkept}
+use Rattle.command_io.specs.Disk.{IsCutOff, IsUnkept}
 use Rattle.command_io.specs.Dumps.{RefusedUncreated}
 use Rattle.command_io.specs.Memory.{memory_disk, WrittenIsThere}
 use Rattle.command_io.specs.declared.memory.MemoryFiles.{MemoryFiles}
@@ -17,6 +17,11 @@ same_files : (from to : MemoryFiles) → IsUnkept (memory_disk from) from to →
 same_files from to (inl same) = same
 same_files from to (inr same) = same
 
+-- nor does a call that fails
+same_cut_off : (from to : MemoryFiles) → IsCutOff (memory_disk from) from to → to ≡ from
+same_cut_off from to (inl same) = same
+same_cut_off from to (inr same) = same
+
 -- after a refusal for another cause than the output the files are as they were
 pub unchanged : (from to : MemoryFiles) (result : Result (Unit {0}) CommandRefusal) → RefusedUncreated (memory_disk from) from to result → IfErr result (λ refusal. refusal ≢ CannotPrint → to ≡ from)
 unchanged from to (Ok _) h = tt
@@ -24,12 +29,12 @@ unchanged from to (Err (Layout fault)) h = λ other. h
 unchanged from to (Err (Mutator refused)) h = λ other. h
 unchanged from to (Err (Sweep fault)) h = λ other. h
 unchanged from to (Err (Trace fault)) h = λ other. h
-unchanged from to (Err (Dump fault)) h = λ other. same_files from to h
+unchanged from to (Err (Dump fault)) h = λ other. same_cut_off from to h
 unchanged from to (Err (Audit fault)) h = λ other. h
 unchanged from to (Err (Moved fault)) h = λ other. h
-unchanged from to (Err (CannotWrite output)) h = λ other. same_files from to h
+unchanged from to (Err (CannotWrite output)) h = λ other. same_cut_off from to h
 unchanged from to (Err (CannotOpen input)) h = λ other. h
-unchanged from to (Err (CannotCreate output)) h = λ other. same_files from to h
+unchanged from to (Err (CannotCreate output)) h = λ other. same_cut_off from to h
 unchanged from to (Err (ReadFailed input)) h = λ other. h
 unchanged from to (Err CannotPrint) h = λ other. absurd (other refl)
 unchanged from to (Err (NoSuchWord index)) h = λ other. h

@@ -43,7 +43,7 @@ returns-in_err-write_dump_to-clause-cause g c =
 pub returns-in_err-write_dump_to-clause-output : goal.returns-in_err-write_dump_to-clause-output
 returns-in_err-write_dump_to-clause-output g c =
     let p = err_from_is_err_and c.from_residual-in_err-write_dump_to.result c.from_residual-in_err-write_dump_to.ensures.1 in
-    rw (p.1, p.2) (untouched g.O.Write.contents c.args.out.now _ (uncounted_dump (g.F.Files.disk c.args.files.now) c.args.dump.now (dump_bytes c.in_ok-made.made) (failures_of c.args.out.now) _ c.in_err-write_dump_to.ensures.cause))
+    rw (p.1, p.2) (untouched g.O.Write.contents c.args.out.now _ (uncounted_dump (g.F.Files.disk c.args.files.now) c.args.dump.now (dump_bytes c.in_ok-made.made) c.write_dump_to.new.files (failures_of c.args.out.now) _ c.in_err-write_dump_to.ensures.cause))
 
 pub returns-in_err-write_dump_to-clause-uncreated : goal.returns-in_err-write_dump_to-clause-uncreated
 returns-in_err-write_dump_to-clause-uncreated g c =

@@ -21,7 +21,7 @@ returns-in_err-write_image_to-clause-cause g c =
 pub returns-in_err-write_image_to-clause-output : goal.returns-in_err-write_image_to-clause-output
 returns-in_err-write_image_to-clause-output g c =
     let p = err_from_is_err_and c.from_residual.result c.from_residual.ensures.1 in
-    rw (p.1, p.2) (untouched g.O.Write.contents c.args.out.now _ (uncounted_image (g.F.Files.disk c.args.files.now) c.args.path.now (encoding c.args.heap.now) (failures_of c.args.out.now) _ c.in_err-write_image_to.ensures.cause))
+    rw (p.1, p.2) (untouched g.O.Write.contents c.args.out.now _ (uncounted_image (g.F.Files.disk c.args.files.now) c.args.path.now (encoding c.args.heap.now) c.write_image_to.new.files (failures_of c.args.out.now) _ c.in_err-write_image_to.ensures.cause))
 
 pub returns-in_err-write_image_to-clause-unmade : goal.returns-in_err-write_image_to-clause-unmade
 returns-in_err-write_image_to-clause-unmade g c =

@@ -25,13 +25,13 @@ returns-in_err-write_dump_to-clause-cause g c =
     let dump = c.in_ok-dump.dump in
     let same = dumped_same asked.mutators asked.fresh c.args.run.now.finished dump made.edition made.mutators made.fresh made.roots made.pages made.builds made.total in
     rw (p.1, p.2) (writing_of disk asked.dump.now _ c.write_dump_to.new.files _
-    (subst (λ (d : Dumped). IsOfDumping disk asked.dump.now (dump_bytes d) c.in_err-write_dump_to.field-0.0) same c.in_err-write_dump_to.ensures.cause))
+    (subst (λ (d : Dumped). IsOfDumping disk asked.dump.now (dump_bytes d) c.write_dump_to.new.files c.in_err-write_dump_to.field-0.0) same c.in_err-write_dump_to.ensures.cause))
 
 pub returns-in_err-write_dump_to-clause-output : goal.returns-in_err-write_dump_to-clause-output
 returns-in_err-write_dump_to-clause-output g c =
     let p = err_from_is_err_and c.from_residual-in_err-write_dump_to.result c.from_residual-in_err-write_dump_to.ensures.1 in
     let path = c.args.asked.dump.now in
-    rw (p.1, p.2) (untouched_run g.O.Write.contents c.args.out.now _ (uncounted_dump (g.F.Files.disk c.args.files.now) path (dump_bytes c.in_ok-dump.dump) (failures_of c.args.out.now) _ c.in_err-write_dump_to.ensures.cause))
+    rw (p.1, p.2) (untouched_run g.O.Write.contents c.args.out.now _ (uncounted_dump (g.F.Files.disk c.args.files.now) path (dump_bytes c.in_ok-dump.dump) c.write_dump_to.new.files (failures_of c.args.out.now) _ c.in_err-write_dump_to.ensures.cause))
 
 pub returns-in_err-write_dump_to-clause-uncreated : goal.returns-in_err-write_dump_to-clause-uncreated
 returns-in_err-write_dump_to-clause-uncreated g c =
