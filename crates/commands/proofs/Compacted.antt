@@ -2,7 +2,7 @@
 use Rattle.std.proofs.Common.{◌≡◌, ℕ, Bool, List, Option, Result, Ok, Err, IfErr, OnErr, map, codes, refl, sym, subst, ◌∙◌}
 use Rattle.std.specs.Io.KnownBytes.{Appends}
 use Rattle.heap_layout.specs.Heap.{Heap, live}
-use Rattle.page_plan.specs.Sliding.{forwarded, live_words}
+use Rattle.page_plan.specs.Sliding.{forwarded_value, live_words}
 use Rattle.comp_mutator.specs.Finishes.{edition_in, builds_in, live_of, pages_of, roots_of}
 use Rattle.comp_mutator.specs.Finished.{Finished}
 use Rattle.comp_dump.specs.Dumped.{Dumped}
@@ -35,7 +35,7 @@ pub record IsDumpOf (workers : ℕ) (f : Finished) (dump : Dumped) : Type 0 wher
 
 module _ (workers : ℕ) (f : Finished) (dump : Dumped) (parts : IsDumpOf workers f dump) (heap : Heap) (h : IsSweptHeap workers f heap) where
   same_dump : dump ≡ swept_dump workers heap (builds_in f)
-  same_dump = same_parts dump.edition heap.edition dump.mutators workers dump.fresh 0 dump.total (live_words (live heap)) dump.roots (map (forwarded (live heap)) heap.roots)
+  same_dump = same_parts dump.edition heap.edition dump.mutators workers dump.fresh 0 dump.total (live_words (live heap)) dump.roots (map (forwarded_value heap.edition (live heap)) heap.roots)
       dump.pages (slid_records (live heap)) dump.builds (builds_in f)
       (parts.edition ∙ h.edition) parts.mutators parts.fresh (parts.roots ∙ h.roots) (parts.pages ∙ h.pages) parts.builds (parts.total ∙ h.total)
 

@@ -3,7 +3,7 @@ use Rattle.std.proofs.Common.{◌≡◌, ℕ, ◌+◌, ◌<◌, List, length, ma
 use Rattle.std.proofs.lemmas.List.{length-map, get_or-map, get_or_past}
 use Rattle.std.specs.List.{range_with_len}
 use Rattle.heap_layout.specs.Heap.{live, Heap}
-use Rattle.page_plan.specs.Sliding.{forward, live_words}
+use Rattle.page_plan.specs.Sliding.{forward_value, live_words}
 use Rattle.comp_mutator.specs.Journal.{replayed}
 use Rattle.comp_mutator.specs.Entry.{Entry}
 use Rattle.comp_mutator.specs.Closing.{journal_in, page_at, HasBase}
@@ -47,7 +47,7 @@ module _ (u : Setup) (row : List Pass) (f : Finished) (end : IsFinished u row f)
     edition = end.edition;
     mutators = refl;
     fresh = refl;
-    roots = each-given (forward (live u.heap)) u.heap.roots (roots_of f) end.roots;
+    roots = each-given (forward_value u.heap.edition (live u.heap)) u.heap.roots (roots_of f) end.roots;
     slots = length-map (pages_of f) record_of ∙ end.pages.count;
     page_by_page = λ p lt. subst (IsPageAfter u added p) (sym (read_page p lt)) (slot_after p (page_at (pages_of f) p) refl);
     stamps = subst (λ (l : List (ℕ × Entry)). map stamp_of l ≡ range_with_len 0 (length l)) same end.history.one.stamps;

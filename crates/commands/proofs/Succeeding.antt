@@ -7,7 +7,7 @@ use Rattle.heap_layout.specs.Faults.{IsAccepted}
 use Rattle.heap_layout.specs.Heap.{live, Heap, IsClosed, IsStored}
 use Rattle.heap_layout.specs.declared.edition.Edition.{Edition}
 use Rattle.heap_layout.proofs.Marked.{closed}
-use Rattle.page_plan.specs.Sliding.{forward}
+use Rattle.page_plan.specs.Sliding.{forward_value}
 use Rattle.comp_mutator.specs.Cycles.{heap_after, roots_after, entries_of, Cycle, Follow, IsCycleOf, IsOneLife}
 use Rattle.comp_mutator.specs.Entry.{Entry}
 use Rattle.comp_mutator.specs.Journal.{replayed}
@@ -57,7 +57,7 @@ same_map F G same (x ∷ xs) = ap (λ (y : ℕ). y ∷ map F xs) (same x) ∙ ap
 -- a word of the next heap is made of the journal of its page
 same_word : (u : Setup) (journals others : Journals) → ((p : ℕ) → journals p ≡ others p) → (i : ℕ) → next_word u journals i ≡ next_word u others i
 same_word u journals others same i =
-    ap (λ (journal : List Entry). lowered_as (kind_at u (i / 64) journal (i % 64)) (slice_index (replayed (base_of u (i / 64)) journal) (i % 64))) (same (i / 64))
+    ap (λ (journal : List Entry). lowered_as u.heap.edition (kind_at u (i / 64) journal (i % 64)) (slice_index (replayed (base_of u (i / 64)) journal) (i % 64))) (same (i / 64))
 
 abbrev heap_with : Edition → List ℕ → List ℕ → List ℕ → Heap
 heap_with edition words marks roots = record { edition = edition; words = words; marks = marks; roots = roots }
@@ -75,10 +75,10 @@ same_next c d setup journals roots marks =
     let words : words_after c.setup c.journals ≡ words_after d.setup d.journals =
     same_map (next_word c.setup c.journals) (next_word c.setup d.journals) (same_word c.setup c.journals d.journals journals) (range_with_len 0 (64 * pages c.setup))
     ∙ ap (λ (u : Setup). words_after u d.journals) setup in
-    ap (λ (u : Setup). heap_with u.heap.edition (words_after c.setup c.journals) c.marks (map lowered (roots_after c))) setup
-    ∙ ap (λ (w : List ℕ). heap_with d.setup.heap.edition w c.marks (map lowered (roots_after c))) words
-    ∙ ap (λ (m : List ℕ). heap_with d.setup.heap.edition (words_after d.setup d.journals) m (map lowered (roots_after c))) marks
-    ∙ ap (λ (r : List ℕ). heap_with d.setup.heap.edition (words_after d.setup d.journals) d.marks (map lowered r)) roots
+    ap (λ (u : Setup). heap_with u.heap.edition (words_after c.setup c.journals) c.marks (map (lowered u.heap.edition) (roots_after c))) setup
+    ∙ ap (λ (w : List ℕ). heap_with d.setup.heap.edition w c.marks (map (lowered d.setup.heap.edition) (roots_after c))) words
+    ∙ ap (λ (m : List ℕ). heap_with d.setup.heap.edition (words_after d.setup d.journals) m (map (lowered d.setup.heap.edition) (roots_after c))) marks
+    ∙ ap (λ (r : List ℕ). heap_with d.setup.heap.edition (words_after d.setup d.journals) d.marks (map (lowered d.setup.heap.edition) r)) roots
 
 -- the list of the objects that roots reach is one
 abbrev pub ReachedOnce : Type 0
@@ -124,7 +124,7 @@ module _ (mutators fresh : ℕ) (heap : Heap) (lines : List Line) (given : Given
       let entries : entries_of c ≡ entries_of d = ran.entries_are ∙ added ∙ sym again.entries_are in
       let setup : c.setup ≡ d.setup = ran.setup_is ∙ sym again.setup_is in
       let journals = λ (p : ℕ). sym (page_is c x.part.cycle.merges p) ∙ ap (λ (l : List (ℕ × Entry)). on p l) entries ∙ page_is d y.part.cycle.merges p in
-      let roots = same_roots c.roots d.roots (x.part.cycle.roots ∙ ap (λ (v : Setup). map (forward (live v.heap)) v.heap.roots) setup ∙ sym y.part.cycle.roots) in
+      let roots = same_roots c.roots d.roots (x.part.cycle.roots ∙ ap (λ (v : Setup). map (forward_value v.heap.edition (live v.heap)) v.heap.roots) setup ∙ sym y.part.cycle.roots) in
       let words = ap (λ (r : ℕ → List ℕ). words_named r given.roots) alike.registers in
       let after = roots_alike c d (x.part.roots_are ∙ words ∙ sym y.part.roots_are) roots in
       let left = same_next c d setup journals after (same_marks once c d setup journals after given.marks x.part.marked y.part.marked) in

@@ -9,7 +9,7 @@ use mathlib.Core.Option.{some}
 use lib.ListN.{get_elem?}
 use Rattle.heap_layout.specs.Heap.{live}
 use Rattle.page_plan.specs.Sliding as sliding
-use Rattle.page_plan.specs.Sliding.{forward, live_words}
+use Rattle.page_plan.specs.Sliding.{forward_value, live_words}
 use Rattle.page_plan.specs.declared.builder.Builder.{Ghosts}
 use Rattle.comp_mutator.specs.Journal.{replayed}
 use Rattle.comp_mutator.specs.Entry.{Entry}
@@ -104,7 +104,7 @@ module _ (u : Setup) (row : List Pass) (f : Finished) (end : IsFinished u row f)
     is_swept = record {
       edition = end.edition;
       pages = pages_are;
-      roots = each-given (forward (live u.heap)) u.heap.roots (roots_of f) end.roots;
+      roots = each-given (forward_value u.heap.edition (live u.heap)) u.heap.roots (roots_of f) end.roots;
       total = total_is;
       builds = builds_are;
     }

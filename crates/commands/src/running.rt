@@ -9,7 +9,7 @@ ghost use Rattle.command_io.specs.NewImages.{RefusedUnmade};
 ghost use Rattle.command_io.specs.declared.refusal.CommandRefusal.TheVariants.{OutOfMemory};
 ghost use Rattle.commands.specs.Replays.{StopsUnprinted};
 ghost use Rattle.commands.specs.Tasks.{DoesTask, HasAnswered, RefusesTask};
-ghost use Rattle.commands.specs.Answers.{status_of, DoesAsked, IsUnanswered};
+ghost use Rattle.commands.specs.Answers.{status_of, DoesAsked, IsUnanswered, LeavesSent};
 ghost use Rattle.commands.specs.declared.running.Unanswered.TheVariants.{Misused, Refused};
 ghost use Rattle.commands.specs.Leaving.{LeavesOutput};
 
@@ -86,6 +86,7 @@ pub fn answer<R: Threads + Wait + Sync, F: Files, O: Write>(
     ensures flushed { OnOk result (is_flushed_of out.new ≡ true) }
     ensures counts { OnOk result (failures_of out.new ≡ failures_of out.old) }
     ensures cause { IfErr result (IsUnanswered (F.disk files.old) files.old files.new (failures_of out.old) (failures_of out.new) (O.contents (inner_of out.old).now) (O.contents (inner_of out.new).now) (map string_bytes words.now)) }
+    ensures sent { IfErr result (LeavesSent (is_flushed_of out.old) (is_flushed_of out.new)) }
     ensures same_writer { writer_of out.new ≡ writer_of out.old }
 {
     match read_task(alloc, words) {

@@ -20,7 +20,7 @@ pub record IsRead (u : Setup) (old new : Pass) (kind : Kind) (object field : ℕ
   pub did : did new ≡ did old
   -- the answer is the field's word, as the pass has now seen it on the field's page
   pub word : IfOk answer (Reads u (seen new) kind object field)
-  -- the answer of a reference or weak field is null or a start that the pass knows
+  -- the answer of a reference or weak field is null, an immediate, or a start that the pass knows
   pub known : refers kind ≡ true → IfOk answer (MayRefer new)
   -- the call built no page other than the field's
   pub builds : OnOk answer (MayBuildTouched u old new kind object field)

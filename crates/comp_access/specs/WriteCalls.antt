@@ -17,7 +17,7 @@ pub record IsWrite (u : Setup) (old new : Pass) (kind : Kind) (object field valu
   pub grows : Grows old new
   -- the call wrote one entry, and the answer is its stamp
   pub wrote : IfOk answer (Writes u old new kind object field value)
-  -- only null, or a start that the pass knows, is written into a reference or weak field
+  -- only null, an immediate, or a start that the pass knows is written into a reference or weak field
   pub target : refers kind ≡ true → OnOk answer (MayRefer new value)
   -- the call built no page other than the field's
   pub builds : OnOk answer (MayBuildTouched u old new kind object field)

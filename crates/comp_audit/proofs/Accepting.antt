@@ -7,12 +7,13 @@ use Rattle.std.proofs.lemmas.Bool.{cases_lt, eq-eqb, lt-ltb, le-leb}
 use Rattle.std.proofs.lemmas.List.{get_or_default}
 use mathlib.Core.Option as maybe
 use lib.ListN.{get_elem?}
+use Rattle.heap_layout.specs.Values.{leads_nowhere, LeadsNowhere}
 use Rattle.heap_layout.specs.Heap.{live}
 use Rattle.heap_layout.specs.declared.edition.Edition.{Edition}
-use Rattle.heap_layout.specs.declared.edition.Edition.TheVariants.{One, Two, Three}
+use Rattle.heap_layout.specs.declared.edition.Edition.TheVariants.{One, Two, Three, Four}
 use Rattle.heap_layout.specs.Kinds.{refers}
 use Rattle.heap_layout.specs.declared.kind.Kind.{Kind}
-use Rattle.page_plan.specs.Sliding.{forwarded, live_words}
+use Rattle.page_plan.specs.Sliding.{forwarded_value, live_words}
 use Rattle.comp_dump.specs.Journal.{replayed}
 use Rattle.comp_dump.specs.Entry.{Entry}
 use Rattle.comp_dump.specs.Setup.{Setup, pages, address, base_of}
@@ -76,6 +77,7 @@ edition_same : (e : Edition) → is_edition e e ≡ true
 edition_same One = refl
 edition_same Two = refl
 edition_same Three = refl
+edition_same Four = refl
 
 module _ (u : Setup) (journals : Journals) where
   abbrev all : List (ℕ × Entry)
@@ -108,20 +110,20 @@ module _ (u : Setup) (journals : Journals) where
       let before = is_made_before all e.value e.stamp in
       ⊎_elim
       (λ (reference : refers e.kind ≡ true). ⊎_elim
-      (λ (null : e.value ≡ 0). left_holds _ before (left_holds _ _ (right_holds (not (refers e.kind)) (eqb e.value 0) (eq-eqb _ _ null))))
+      (λ (nowhere : LeadsNowhere u.heap.edition e.value). left_holds _ before (left_holds _ _ (right_holds (not (refers e.kind)) (leads_nowhere u.heap.edition e.value) nowhere)))
       (λ start. ⊎_elim
-      (λ (place : IsForwardingAddress u.heap e.value). left_holds _ before (right_holds (not (refers e.kind) || eqb e.value 0) _ (ap is_some place.1)))
+      (λ (place : IsForwardingAddress u.heap e.value). left_holds _ before (right_holds (not (refers e.kind) || leads_nowhere u.heap.edition e.value) _ (ap is_some place.1)))
       (λ (made : IsMadeBefore u journals e.stamp e.value). right_holds _ before (older_found e.value e.stamp made))
       start)
       (leads reference))
-      (λ (other : refers e.kind ≡ false). left_holds _ before (left_holds _ _ (left_holds _ (eqb e.value 0) (ap not other))))
+      (λ (other : refers e.kind ≡ false). left_holds _ before (left_holds _ _ (left_holds _ (leads_nowhere u.heap.edition e.value) (ap not other))))
       (holds_or_not (refers e.kind))
 
   -- a word that is null or leads to an object passes its test, if it is a reference
-  reference_tested : (o : Option Kind) (a : ℕ) → ((k : Kind) → refers k ≡ true → o ≡ Some k → LeadsToObject u journals a) → ((not (some_refers o) || eqb a 0) || is_start u.heap all a) ≡ true
-  reference_tested o a leads = start_tested (is_start u.heap all) o a (λ k is_ref kind.
+  reference_tested : (o : Option Kind) (a : ℕ) → ((k : Kind) → refers k ≡ true → o ≡ Some k → LeadsToObject u journals a) → ((not (some_refers o) || leads_nowhere u.heap.edition a) || is_start u.heap all a) ≡ true
+  reference_tested o a leads = start_tested u.heap.edition (is_start u.heap all) o a (λ k is_ref kind.
       ⊎_elim
-      (λ (null : a ≡ 0). inl null)
+      (λ (nowhere : LeadsNowhere u.heap.edition a). inl nowhere)
       (λ start. inr (⊎_elim
       (λ place. address_found a place)
       (λ made. right_holds _ (list_any (makes a) all) (start_found a made))
@@ -155,7 +157,7 @@ module _ (u : Setup) (dump : Dumped) (lawful : IsLawfulDump u dump)
   closed = each_leads u journals can.lawful (older_closed u journals can.references)
 
   loose_at : (p : ℕ) (page : BuiltPage) → get_or records p None ≡ Some page → (i k x : ℕ) → i < length page.words → k ≡ 0 + i → x ≡ get_or page.words i x
-      → ((not (some_refers (kind_at u p page.journal k)) || eqb x 0) || is_start u.heap (entries_below journals (pages u)) x) ≡ true
+      → ((not (some_refers (kind_at u p page.journal k)) || leads_nowhere u.heap.edition x) || is_start u.heap (entries_below journals (pages u)) x) ≡ true
   loose_at p page at i k x inside number is =
       let same = journal_is p page at in
       let place : i ≡ k = omega (arith, number) in
@@ -213,7 +215,7 @@ pub lawful_is_yes : LawfulIsYes
 lawful_is_yes heap dump stored lawful =
     let u = setup_for heap dump.fresh dump.mutators in
     let records = dump.pages in
-    let right = map (forwarded (live heap)) heap.roots in
+    let right = map (forwarded_value heap.edition (live heap)) heap.roots in
     let long : (p : ℕ) (page : BuiltPage) → page_of dump p ≡ Some page → length page.words ≡ 64 = λ p page at. page_long dump.edition dump.mutators records p page stored.pages at in
     let here : pages u ≡ length records = sym lawful.slots in
     let all = entries_below (journals_in records) in

@@ -4,7 +4,7 @@ use Rattle.std.proofs.Math.ListN.{get_or-map}
 use Rattle.std.proofs.Math.Path.{fun_ext}
 use Rattle.std.proofs.lemmas.List.{length-map}
 use Rattle.heap_layout.specs.Heap.{live}
-use Rattle.page_plan.specs.Sliding.{forward, live_words}
+use Rattle.page_plan.specs.Sliding.{forward_value, live_words}
 use Rattle.comp_dump.specs.Journal.{replayed}
 use Rattle.comp_dump.specs.Entry.{Entry}
 use Rattle.comp_dump.specs.Setup.{Setup, base_of}
@@ -60,7 +60,7 @@ module _ (mutators fresh : ℕ) (f : Finished) (of : IsOfFlip mutators fresh f) 
   lawful = record {
     edition = is.edition_is ∙ of.finished.edition;
     slots = ap length is.pages ∙ length-map (pages_of f) record_of ∙ of.finished.pages.count;
-    roots = is.roots ∙ are_forwarded (forward (live u.heap)) (finished.roots_of f) u.heap.roots of.finished.roots;
+    roots = is.roots ∙ are_forwarded (forward_value u.heap.edition (live u.heap)) (finished.roots_of f) u.heap.roots of.finished.roots;
     claims = λ p lt. ap (named p) is.builds ∙ of.finished.pages.once p ∙ sym (ap built_count (page_is p) ∙ record_built (page_at (pages_of f) p));
     words = λ p page at. record_words u p page (page_at (pages_of f) p) (of.finished.pages.bases p) (sym (page_is p) ∙ at);
     merges = subst (λ (j : ℕ → List Entry). CanMerge u j) (sym journals_are) of.finished.history.merges;

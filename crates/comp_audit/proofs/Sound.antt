@@ -9,14 +9,15 @@ use Rattle.std.proofs.Math.ListN.{get_or-eq_default}
 use mathlib.Core.Option as maybe
 use mathlib.Core.Option.{some-ne-none}
 use lib.ListN.{get_elem?}
+use Rattle.heap_layout.specs.Values.{leads_nowhere}
 use Rattle.heap_layout.specs.Heap.{live}
 use Rattle.heap_layout.specs.declared.edition.Edition.{Edition}
-use Rattle.heap_layout.specs.declared.edition.Edition.TheVariants.{One, Two, Three}
+use Rattle.heap_layout.specs.declared.edition.Edition.TheVariants.{One, Two, Three, Four}
 use Rattle.heap_layout.specs.Header.{Head}
 use Rattle.heap_layout.specs.Kinds.{refers}
 use Rattle.heap_layout.specs.declared.kind.Kind.{Kind}
 use Rattle.heap_layout.specs.declared.kind.Kind.TheVariants.{Header}
-use Rattle.page_plan.specs.Sliding.{forwarded, live_words, shape_at}
+use Rattle.page_plan.specs.Sliding.{forwarded_value, live_words, shape_at}
 use Rattle.comp_dump.specs.Journal.{replayed}
 use Rattle.comp_dump.specs.Entry.{Entry}
 use Rattle.comp_dump.specs.Setup.{Setup, pages, address, base_of}
@@ -60,11 +61,18 @@ edition_means Two Three h = absurd cc
 edition_means Three One h = absurd cc
 edition_means Three Two h = absurd cc
 edition_means Three Three h = refl
+edition_means One Four h = absurd cc
+edition_means Two Four h = absurd cc
+edition_means Three Four h = absurd cc
+edition_means Four One h = absurd cc
+edition_means Four Two h = absurd cc
+edition_means Four Three h = absurd cc
+edition_means Four Four h = refl
 
 head_means : (u : Setup) (edition : Edition) (roots : List ℕ) (records : List (Option BuiltPage)) → head_faults u edition roots records ≡ []
-    → (edition ≡ u.heap.edition) × (length records ≡ pages u) × (roots ≡ map (forwarded (live u.heap)) u.heap.roots)
+    → (edition ≡ u.heap.edition) × (length records ≡ pages u) × (roots ≡ map (forwarded_value u.heap.edition (live u.heap)) u.heap.roots)
 head_means u edition roots records none =
-    let right = map (forwarded (live u.heap)) u.heap.roots in
+    let right = map (forwarded_value u.heap.edition (live u.heap)) u.heap.roots in
     let all = and_true (is_edition edition u.heap.edition) (eqb (length records) (pages u) && bytes_eq roots right) (unless-none _ WrongHead none) in
     let both = and_true (eqb (length records) (pages u)) (bytes_eq roots right) all.1 in
     (edition_means edition u.heap.edition all.0, eqb-true _ _ both.0, (bytes_eq-Decides roots right).0 both.1)
@@ -140,13 +148,13 @@ module _ (u : Setup) (journals : Journals) (lawful : AreLawful u journals) where
   led_means : (e : Entry) → refers e.kind ≡ true → is_led u.heap (is_made_before all) e ≡ true → LeadsToOlder u journals e.stamp e.value
   led_means e reference h =
       let is_reference = not (refers e.kind) in
-      let null = eqb e.value 0 in
+      let null = leads_nowhere u.heap.edition e.value in
       let place = is_forwarding_address u.heap e.value in
       let before = is_made_before all e.value e.stamp in
       let not_other : is_reference ≡ false = ap not reference in
       ⊎_elim
       (λ (front : ((is_reference || null) || place) ≡ true). ⊎_elim
-      (λ (first : (is_reference || null) ≡ true). inl (eqb-true _ _ (or_right is_reference null not_other first)))
+      (λ (first : (is_reference || null) ≡ true). inl (or_right is_reference null not_other first))
       (λ (second : place ≡ true). inr (inl (some_header (shape_at (live u.heap) e.value) second)))
       (or_cases (is_reference || null) place front))
       (λ (last : before ≡ true). inr (inr (made_means e.value e.stamp last)))

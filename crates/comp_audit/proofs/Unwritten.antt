@@ -3,6 +3,8 @@
 use Rattle.std.proofs.Common.{◌≡◌, ℕ, ◌<◌, ◌⊎◌, inl, inr, ⊎_elim, Bool, true, eqb, not, ◌||◌, is_some, List, [], length, get_or, Option, Some, sym, ap, subst, ◌∙◌, arith}
 use Rattle.std.proofs.lemmas.Bool.{eqb-true, eq-eqb}
 use Rattle.std.proofs.lemmas.List.{get_or_default}
+use Rattle.heap_layout.specs.declared.edition.Edition.{Edition}
+use Rattle.heap_layout.specs.Values.{leads_nowhere, LeadsNowhere}
 use Rattle.heap_layout.specs.Heap.{live}
 use Rattle.heap_layout.specs.Kinds.{refers}
 use Rattle.heap_layout.specs.declared.kind.Kind.{Kind}
@@ -27,15 +29,15 @@ word_means right words p i inside none =
     (item_none (λ word. unless (eqb word.1 (get_or right word.0 0)) (WrongWord (address p word.0))) 0 words i i 0 inside (omega arith) none))
 
 -- a word that is null or leads somewhere, if it refers, passes the check of references
-pub start_tested : (leading : ℕ → Bool) (o : Option Kind) (a : ℕ) → ((k : Kind) → refers k ≡ true → o ≡ Some k → (a ≡ 0) ⊎ (leading a ≡ true))
-    → ((not (some_refers o) || eqb a 0) || leading a) ≡ true
-start_tested leading o a led =
+pub start_tested : (edition : Edition) (leading : ℕ → Bool) (o : Option Kind) (a : ℕ) → ((k : Kind) → refers k ≡ true → o ≡ Some k → LeadsNowhere edition a ⊎ (leading a ≡ true))
+    → ((not (some_refers o) || leads_nowhere edition a) || leading a) ≡ true
+start_tested edition leading o a led =
     ⊎_elim
     (λ (reference : some_refers o ≡ true). ⊎_elim
-    (λ (null : a ≡ 0). left_holds _ (leading a) (right_holds (not (some_refers o)) (eqb a 0) (eq-eqb _ _ null)))
-    (λ start. right_holds (not (some_refers o) || eqb a 0) (leading a) start)
+    (λ (nowhere : LeadsNowhere edition a). left_holds _ (leading a) (right_holds (not (some_refers o)) (leads_nowhere edition a) nowhere))
+    (λ start. right_holds (not (some_refers o) || leads_nowhere edition a) (leading a) start)
     (let r = refers_means o reference in led r.0 r.1 r.2))
-    (λ other. left_holds _ (leading a) (left_holds _ (eqb a 0) (ap not other)))
+    (λ other. left_holds _ (leading a) (left_holds _ (leads_nowhere edition a) (ap not other)))
     (holds_or_not (some_refers o))
 
 -- the words of such a page have no loose reference
@@ -47,12 +49,12 @@ none_loose u starts p page lawful long empty right =
     let place : i ≡ k = omega (arith, number) in
     let value : get_or made k 0 ≡ x =
     ap (λ (j : ℕ). get_or made j 0) (sym place) ∙ sym (word_means made page.words p i inside right) ∙ get_or_default page.words i 0 x inside ∙ sym is in
-    holds _ (LooseReference (address p k)) (start_tested (leads u.heap starts) (kind_at u p page.journal k) x (λ kind referring reference.
+    holds _ (LooseReference (address p k)) (start_tested u.heap.edition (leads u.heap starts) (kind_at u p page.journal k) x (λ kind referring reference.
     ⊎_elim
-    (λ null. inl null)
+    (λ nowhere. inl nowhere)
     (λ slid. inr (left_holds (is_forwarding_address u.heap x) (is_some (stamp_at starts x)) (ap is_some slid.1)))
-    (subst (LeadsToForwardingAddress (live u.heap)) value
-    (each_reference u p k page.journal (LeadsToForwardingAddress (live u.heap)) lawful (λ a leading. leading)
+    (subst (LeadsToForwardingAddress u.heap.edition (live u.heap)) value
+    (each_reference u p k page.journal (LeadsToForwardingAddress u.heap.edition (live u.heap)) lawful (λ a leading. leading)
     (λ n e at is_ref. absurd (let inside = is_inside page.journal n e at in omega (arith, inside, empty))) kind referring (record {
       inside = omega (arith, inside, long, number);
       kind_is = reference;

@@ -61,7 +61,7 @@ fits_after u p before e = fits u p before e.kind e.writer e.offset e.value
 abbrev pub IsMisfit : Setup → ℕ → List Entry → Entry → EntryCause → Type 0
 IsMisfit u p before e cause = (fits_after u p before e ≡ false) × IsCauseFor e.kind u p before e cause
 
--- entry e is null, or no reference or weak word, or leads to an object that is older than it
+-- entry e is null or an immediate, or no reference or weak word, or leads to an object that is older than it
 abbrev pub leads_back : Heap → Dumped → Entry → Bool
 leads_back heap dump = is_led heap (is_made_before (all_entries dump.pages))
 

@@ -2,16 +2,17 @@
 -- tests are computed; `Faultless` says what the test of an entry means for the cells.
 use Rattle.std.specs.Prelude.{ℕ, ◌+◌, ◌-◌, ◌%◌, ◌==◌, ◌&&◌, ◌||◌, max, not, is_some, Bool, true, false, nat_lt, nat_le, bytes_eq, List, [], ◌∷◌, ◌++◌, length, map, slice_index, slice_index_or, Option, Some, None}
 use Rattle.std.specs.List.{flat_map, enumerate_from, list_any, range_with_len}
+use Rattle.heap_layout.specs.Values.{leads_nowhere}
 pub use Rattle.heap_layout.specs.Faults.{unless}
 use Rattle.heap_layout.specs.Header.{header_of, size_of}
 use Rattle.heap_layout.specs.Kinds.{refers}
 use Rattle.heap_layout.specs.Heap.{Heap, live}
 use Rattle.heap_layout.specs.declared.edition.Edition.{Edition}
-use Rattle.heap_layout.specs.declared.edition.Edition.TheVariants.{One, Two, Three}
+use Rattle.heap_layout.specs.declared.edition.Edition.TheVariants.{One, Two, Three, Four}
 use Rattle.heap_layout.specs.declared.kind.Kind.{Kind}
 use Rattle.heap_layout.specs.declared.kind.Kind.TheVariants.{Header, Reference, Weak, Data}
 use Rattle.page_plan.specs.Sliding as sliding
-use Rattle.page_plan.specs.Sliding.{live_words, forwarded, shape_at}
+use Rattle.page_plan.specs.Sliding.{live_words, forwarded_value, shape_at}
 use Rattle.comp_journal.specs.Journal.{replayed}
 use Rattle.comp_journal.specs.declared.entry.Entry.{Entry}
 use Rattle.comp_history.specs.Lists.{times}
@@ -60,13 +61,14 @@ abbrev pub is_edition : Edition → Edition → Bool
 is_edition One One = true
 is_edition Two Two = true
 is_edition Three Three = true
+is_edition Four Four = true
 is_edition edition other = false
 
 -- 1. The dump is of the heap's edition, there is one record for each compacted and each fresh page, and the roots are
 -- those that the plan forwards.
 abbrev pub head_faults : Setup → Edition → List ℕ → List (Option BuiltPage) → List AuditFault
 head_faults u edition roots records =
-    unless (is_edition edition u.heap.edition && ((length records == pages u) && bytes_eq roots (map (forwarded (live u.heap)) u.heap.roots))) WrongHead
+    unless (is_edition edition u.heap.edition && ((length records == pages u) && bytes_eq roots (map (forwarded_value u.heap.edition (live u.heap)) u.heap.roots))) WrongHead
 
 -- 2. The lists of builds name each page that was built exactly once, and no other page.
 abbrev pub is_claimed : List (List ℕ) → ℕ × Option BuiltPage → Bool
@@ -117,7 +119,8 @@ abbrev pub some_refers : Option Kind → Bool
 some_refers None = false
 some_refers (Some k) = refers k
 
--- 5. Each reference and weak word is null, or the address of a slid object, or one at which a header was written.
+-- 5. Each reference and weak word is null or an immediate, or the address of a slid object, or one at which a header was
+-- written.
 abbrev pub is_forwarding_address : Heap → ℕ → Bool
 is_forwarding_address heap a = is_some (shape_at (live heap) a)
 
@@ -128,13 +131,13 @@ makes a x = is_kind Header (Some x.1.kind) && (address_of x == a)
 abbrev pub is_start : Heap → List (ℕ × Entry) → ℕ → Bool
 is_start heap all a = is_forwarding_address heap a || list_any (makes a) all
 
--- the words of page p that refer, are not null, and lead to no object
-abbrev pub loose_faults : (ℕ → Bool) → (ℕ → Bool) → ℕ → List ℕ → List AuditFault
-loose_faults is_reference leads p words =
-    flat_map (λ word. unless (not (is_reference word.0) || (word.1 == 0) || leads word.1) (LooseReference (address p word.0))) (enumerate_from 0 words)
+-- the words of page p that refer, are neither null nor immediates, and lead to no object
+abbrev pub loose_faults : Edition → (ℕ → Bool) → (ℕ → Bool) → ℕ → List ℕ → List AuditFault
+loose_faults edition is_reference leads p words =
+    flat_map (λ word. unless (not (is_reference word.0) || leads_nowhere edition word.1 || leads word.1) (LooseReference (address p word.0))) (enumerate_from 0 words)
 
 abbrev pub reference_faults : (ℕ → Bool) → Setup → ℕ → BuiltPage → List AuditFault
-reference_faults leads u p page = loose_faults (λ offset. some_refers (kind_at u p page.journal offset)) leads p page.words
+reference_faults leads u p page = loose_faults u.heap.edition (λ offset. some_refers (kind_at u p page.journal offset)) leads p page.words
 
 -- one more than the greatest of some numbers, or 0
 abbrev pub above : List ℕ → ℕ
@@ -149,13 +152,13 @@ repeat_faults stamps = flat_map (λ s. unless (nat_le (times s stamps) 1) (Stamp
 abbrev pub missing_faults : List ℕ → List AuditFault
 missing_faults stamps = flat_map (λ s. unless (nat_le 1 (times s stamps)) (StampMissing s)) (range_with_len 0 (length stamps))
 
--- 8. Each reference and weak word that was written is null, or leads to a slid object, or to an address at which a
--- header with a smaller stamp was written.
+-- 8. Each reference and weak word that was written is null or an immediate, or leads to a slid object, or to an address at
+-- which a header with a smaller stamp was written.
 abbrev pub is_made_before : List (ℕ × Entry) → ℕ → ℕ → Bool
 is_made_before all a n = list_any (λ (x : ℕ × Entry). makes a x && nat_lt (stamp_of x) n) all
 
 abbrev pub is_led : Heap → (ℕ → ℕ → Bool) → Entry → Bool
-is_led heap is_before e = not (refers e.kind) || (e.value == 0) || is_forwarding_address heap e.value || is_before e.value e.stamp
+is_led heap is_before e = not (refers e.kind) || leads_nowhere heap.edition e.value || is_forwarding_address heap e.value || is_before e.value e.stamp
 
 -- the entries of a page that have stamp s and fail the test
 abbrev pub late_on : (Entry → Bool) → ℕ → ℕ → List Entry → List AuditFault

@@ -3,7 +3,7 @@ use Rattle.std.specs.Prelude.{◌≡◌, ◌≢◌, ℕ, ◌+◌, ◌-◌, ◌<�
 use Rattle.std.specs.Option.{option_map}
 use Rattle.heap_layout.specs.Heap.{Heap, live}
 use Rattle.page_plan.specs.Sliding as sliding
-use Rattle.page_plan.specs.Sliding.{forwarded, live_words, new_address, to_address}
+use Rattle.page_plan.specs.Sliding.{forwarded_value, live_words, new_address, to_address}
 use Rattle.page_plan.specs.Planned.{Covers}
 use Rattle.comp_dump.specs.Entry.{Entry}
 use Rattle.comp_dump.specs.Lawful.{filled}
@@ -124,7 +124,7 @@ pub record HasItsPages (heap : Heap) (dump : Dumped) : Type 0 where
 
 -- root k of the heap after the flip
 abbrev pub right_root : Heap → ℕ → ℕ
-right_root heap k = forwarded (live heap) (slice_index heap.roots k)
+right_root heap k = forwarded_value heap.edition (live heap) (slice_index heap.roots k)
 
 -- this root is not the forwarded root of the heap, and those before it are
 pub record IsFirstWrongRoot (heap : Heap) (dump : Dumped) (root : RootAt) : Type 0 where

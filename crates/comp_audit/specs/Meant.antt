@@ -1,7 +1,7 @@
 -- What the audit's answers mean for the cells and for the merged history.
 use Rattle.std.specs.Prelude.{◌≡◌, ℕ, ◌+◌, ◌<◌, List, [], length, map, slice_index_or, Option, Some, None}
 use Rattle.heap_layout.specs.Heap.{Heap, live, IsClosed}
-use Rattle.page_plan.specs.Sliding.{forwarded, live_words}
+use Rattle.page_plan.specs.Sliding.{forwarded_value, live_words}
 use Rattle.comp_dump.specs.Journal.{replayed}
 use Rattle.comp_dump.specs.Entry.{Entry}
 use Rattle.comp_dump.specs.Setup.{Setup, pages, base_of}
@@ -36,7 +36,7 @@ pub record IsLawfulDump (u : Setup) (dump : Dumped) : Type 0 where
   -- there is a record for each page
   pub slots : length dump.pages ≡ pages u
   -- the roots lead to where the objects slid
-  pub roots : dump.roots ≡ map (forwarded (live u.heap)) u.heap.roots
+  pub roots : dump.roots ≡ map (forwarded_value u.heap.edition (live u.heap)) u.heap.roots
   -- the lists of builds name each page that was built exactly once, and no other page
   pub claims : (p : ℕ) → p < pages u → named p dump.builds ≡ built_count (page_of dump p)
   -- the words of each page that was built are what its journal makes of its base
@@ -47,7 +47,7 @@ pub record IsLawfulDump (u : Setup) (dump : Dumped) : Type 0 where
   pub total : dump.total ≡ live_words (live u.heap) + allocated u.heap.edition (history u (journals_of dump))
 
 -- If the audit says yes, the dump is lawful, its pages have one history, and each of their references and weak words is
--- null or the address of an object.
+-- null or the address of an object, or in edition four an immediate.
 pub record IsSound (u : Setup) (dump : Dumped) : Type 0 where
   pub lawful : IsLawfulDump u dump
   pub one : IsOneHistory u (journals_of dump) (history u (journals_of dump))

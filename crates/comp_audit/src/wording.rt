@@ -128,5 +128,6 @@ fn edition_number(edition: Edition) -> u32
         Edition::One => 1,
         Edition::Two => 2,
         Edition::Three => 3,
+        Edition::Four => 4,
     }
 }

@@ -1,5 +1,5 @@
 -- At the beginning of a cycle the slid heap has the objects of its from-space.
-use Rattle.std.proofs.Common.{◌≡◌, ℕ, zero, suc, ◌+◌, ◌-◌, ◌*◌, ◌/◌, ◌%◌, ◌<◌, ◌≤◌, true, false, List, [], ◌∷◌, ◌++◌, length, get_or, take, zip, refl, sym, ap, ap₂, ◌∙◌, inl, inr, ⊎_elim, subst, arith, length-append}
+use Rattle.std.proofs.Common.{◌≡◌, ℕ, zero, suc, ◌+◌, ◌-◌, ◌*◌, ◌/◌, ◌%◌, ◌<◌, ◌≤◌, true, false, cond, Some, List, [], ◌∷◌, ◌++◌, length, get_or, take, zip, refl, sym, ap, ap₂, ◌∙◌, inl, inr, ⊎_elim, subst, arith, length-append}
 use Rattle.std.specs.List.{range_with_len}
 use Rattle.std.specs.Option.{unwrap_or}
 use Rattle.std.proofs.lemmas.Bool.{cases_lt, cases_Bool}
@@ -9,12 +9,16 @@ use mathlib.Core.Option.{some-ne-none}
 use lib.ListN.{get_elem?}
 use Rattle.heap_layout.specs.Header.{Head, header_of, size_of}
 use Rattle.heap_layout.specs.Heap.{Object, header_at, object_at, live, from_address, is_target, IsPlaced, IsClosed}
+use Rattle.heap_layout.specs.Values.{is_immediate}
+use Rattle.heap_layout.proofs.Values.{nowhere-null, nowhere-immediate}
+use Rattle.comp_cycles.proofs.Immediates.{not-immediate}
 use Rattle.page_plan.specs.Sliding as sliding
-use Rattle.page_plan.specs.Sliding.{size, live_words, new_address, forwarded, slid_words, to_address}
-use Rattle.page_plan.proofs.Objects.{live-at, live_words-next, live_words-all, slid-reference, slid-other}
+use Rattle.page_plan.specs.Sliding.{size, live_words, new_address, forward, forwarded, forwarded_value, slid_words, to_address}
+use Rattle.page_plan.proofs.Objects.{live-at, live_words-next, live_words-all, live_words-part, slid-reference, slid-other}
 use Rattle.page_plan.proofs.NewAddresses.{forward-none}
 use Rattle.page_plan.proofs.References.{address-is, address-only}
 use Rattle.page_plan.proofs.Pages.{page-at}
+use Rattle.comp_history.specs.Lists.{look}
 use Rattle.comp_history.specs.Setup.{Setup, base_of}
 use Rattle.comp_history.specs.Starts.{IsForwardingAddress}
 use Rattle.comp_history.specs.Objects.{page_at, offset_at, IsMadeAt}
@@ -25,7 +29,7 @@ use Rattle.comp_history.proofs.Heaps.{first_holds, journals_of}
 use Rattle.comp_cycles.specs.Stable.{StableHeap}
 use Rattle.comp_cycles.specs.Numbered.{Names, number_at, names_in, pointers_of, numbered_object, numbered_word, IsNumberedAs, AreNumbered}
 use Rattle.comp_cycles.proofs.Naming.{at_name, at_row, row_long}
-use Rattle.comp_cycles.proofs.Living.{numbered_reference, numbered_other, Agrees}
+use Rattle.comp_cycles.proofs.Living.{number_is, number_immediate, numbered_reference, numbered_other, Agrees}
 use Rattle.comp_cycles.proofs.Lives.{Ordered}
 use Rattle.comp_cycles.proofs.Targets.{object_long, object_word, target_cases, named_mark, named_null, named_none, forward_mark}
 
@@ -109,7 +113,7 @@ module _ (u : Setup) (closed : IsClosed u.heap) (slid : u.compacted ≡ sliding.
   head_is k lt = ap (header_of u.heap.edition) (head_word k lt)
 
   -- the references and weak words of the k-th object
-  reference_of : (k j : ℕ) → k < length marks → 1 ≤ j → j ≤ pointers_of (header k) → first.word (new_address objects k + j) ≡ forwarded objects (get_or words (mark k + j) 0)
+  reference_of : (k j : ℕ) → k < length marks → 1 ≤ j → j ≤ pointers_of (header k) → first.word (new_address objects k + j) ≡ forwarded_value u.heap.edition objects (get_or words (mark k + j) 0)
   reference_of k j lt low high = word_of k j lt (omega (arith, high)) ∙ slid-reference u.heap closed k j lt low high
 
   -- the other words of the k-th object
@@ -127,7 +131,8 @@ module _ (u : Setup) (closed : IsClosed u.heap) (slid : u.compacted ≡ sliding.
   start_there k lt = (first_holds u).objects (new_address objects k) (inl (address-is objects k (omega (arith, lt, count))))
 
   module _ (names : Names) (numbers : List ℕ) (stable : StableHeap) (later : List ℕ) (t : IsNumberedAs u.heap numbers stable)
-      (is : names ≡ zip (first.starts ++ later) (numbers ++ range_with_len (stable.given + 1) (length later))) (null : number_at names 0 ≡ 0)
+      (is : names.numbers ≡ zip (first.starts ++ later) (numbers ++ range_with_len (stable.given + 1) (length later))) (named : names.edition ≡ u.heap.edition)
+      (low_later : (i : ℕ) → i < length later → is_immediate names.edition (get_or later i 0) ≡ false) (null : number_at names 0 ≡ 0)
     where
       abbrev none : Object
       none = object_at u.heap.edition words 0
@@ -148,7 +153,8 @@ module _ (u : Setup) (closed : IsClosed u.heap) (slid : u.compacted ≡ sliding.
       -- the objects keep their numbers
       pub number_of : (k : ℕ) → k < length marks → number_at names (new_address objects k) ≡ get_or numbers k 0
       number_of k lt =
-          ap (λ l. number_at l (new_address objects k)) is
+          number_is names (new_address objects k) (ap (λ e. is_immediate e (new_address objects k)) named ∙ not-immediate u.heap.edition (new_address objects k) (omega (arith, live_words-part u.heap closed k)))
+          ∙ ap (λ l. look 0 l (new_address objects k)) is
           ∙ at_name (first.starts ++ later) (numbers ++ range_with_len (stable.given + 1) (length later)) k (new_address objects k) (omega (arith, length-append first.starts later, starts_long, lt)) all_long
           (get_or_append_left first.starts later 0 k (omega (arith, starts_long, lt)) ∙ key k lt)
           (λ i under e.
@@ -169,14 +175,14 @@ module _ (u : Setup) (closed : IsClosed u.heap) (slid : u.compacted ≡ sliding.
       placed : (k : ℕ) → k < length marks → IsPlaced u.heap.edition words (mark k)
       placed k lt = closed.placed k 0 lt
 
-      -- a word leads to the same object after it is forwarded; a weak word that leads to an unmarked object is null in
-      -- both heaps
-      pub leads_of : (w : ℕ) → (number_at names (forwarded objects w) ≡ number_at (names_in u.heap numbers) w) × IsNullOrStart first (forwarded objects w)
-      leads_of w = ⊎_elim
+      -- a word that is no immediate leads to the same object after it is forwarded; a weak word that leads to an unmarked
+      -- object is null in both heaps
+      forwarded_of : (w : ℕ) → is_immediate u.heap.edition w ≡ false → (number_at names (forwarded objects w) ≡ number_at (names_in u.heap numbers) w) × IsNullOrStart first (forwarded objects w)
+      forwarded_of w other = ⊎_elim
           (λ (target : is_target marks w ≡ true). ⊎_elim
           (λ (zero_is : w ≡ 0).
           let f : forwarded objects w ≡ 0 = ap (forwarded objects) zero_is in
-          (ap (number_at names) f ∙ null ∙ sym (ap (number_at (names_in u.heap numbers)) zero_is ∙ named_null u.heap closed numbers), inl f))
+          (ap (number_at names) f ∙ null ∙ sym (ap (number_at (names_in u.heap numbers)) zero_is ∙ named_null u.heap closed numbers), inl (nowhere-null u.heap.edition (forwarded objects w) f)))
           (λ (some : (l : ℕ) × (l < length marks) × (from_address (get_or marks l 0) ≡ w)).
           let l = some.0 in
           let f : forwarded objects w ≡ new_address objects l = ap (forwarded objects) (sym some.2) ∙ ap (λ x. unwrap_or x 0) (forward_mark u.heap closed l some.1) in (
@@ -186,8 +192,22 @@ module _ (u : Setup) (closed : IsClosed u.heap) (slid : u.compacted ≡ sliding.
           (target_cases marks w target))
           (λ (no_target : is_target marks w ≡ false).
           let f : forwarded objects w ≡ 0 = ap (λ x. unwrap_or x 0) (forward-none u.heap.edition words marks w no_target) in
-          (ap (number_at names) f ∙ null ∙ sym (named_none u.heap closed numbers w no_target), inl f))
+          (ap (number_at names) f ∙ null ∙ sym (named_none u.heap closed numbers w other no_target), inl (nowhere-null u.heap.edition (forwarded objects w) f)))
           (cases_Bool (is_target marks w))
+
+      -- a word leads to the same object after it is forwarded, and an immediate stays
+      pub leads_of : (w : ℕ) → (number_at names (forwarded_value u.heap.edition objects w) ≡ number_at (names_in u.heap numbers) w) × IsNullOrStart first (forwarded_value u.heap.edition objects w)
+      leads_of w = ⊎_elim
+          (λ (immediate : is_immediate u.heap.edition w ≡ true).
+          let f : forwarded_value u.heap.edition objects w ≡ w = ap (λ b. unwrap_or (cond b (Some w) (forward objects w)) 0) immediate in (
+            ap (number_at names) f ∙ number_immediate names w (ap (λ e. is_immediate e w) named ∙ immediate) ∙ sym (number_immediate (names_in u.heap numbers) w immediate),
+            inl (nowhere-immediate u.heap.edition (forwarded_value u.heap.edition objects w) (ap (is_immediate u.heap.edition) f ∙ immediate)),
+          ))
+          (λ (other : is_immediate u.heap.edition w ≡ false).
+          let f : forwarded_value u.heap.edition objects w ≡ forwarded objects w = ap (λ b. unwrap_or (cond b (Some w) (forward objects w)) 0) other in
+          let to = forwarded_of w other in
+          (ap (number_at names) f ∙ to.0, subst (IsNullOrStart first) (sym f) to.1))
+          (cases_Bool (is_immediate u.heap.edition w))
 
       -- word j of the k-th object in both heaps
       same_word : (k j : ℕ) → k < length marks → j < size_of (header k) → get_or (stable.words (get_or numbers k 0)) j 0 ≡ numbered_word names (pointers_of (header k)) j (first.word (new_address objects k + j))
@@ -242,6 +262,7 @@ module _ (u : Setup) (closed : IsClosed u.heap) (slid : u.compacted ≡ sliding.
 
       pub begun : Agrees names first stable
       begun = record {
+        named = named;
         numbered = begun_numbered;
         apart = λ a b s s2 lt.
             let k = start_of a s in
@@ -271,4 +292,5 @@ module _ (u : Setup) (closed : IsClosed u.heap) (slid : u.compacted ≡ sliding.
         long = starts_long ∙ sym numbers_long;
         is = is;
         starts = λ i lt. let inside : i < length marks = omega (arith, lt, starts_long) in subst (HasStart first) (sym (key i inside)) (start_there i inside);
+        low = low_later;
       }

@@ -20,7 +20,7 @@ module _ (heap : Heap) (f : Finished) (marks : List ℕ) (e : IsEndOf heap f) wh
   -- the roots stay
   module _ (roots : List ℕ) (same : roots ≡ roots_of f) where
     pub own_heap : checked_heap heap f roots marks ≡ heap_after (cycle_of heap f marks)
-    own_heap = ap (λ (list : List ℕ). next_heap u journals list marks) (ap (map held) same ∙ own_held (roots_of f) heap.roots (live heap) e.finished.roots)
+    own_heap = ap (λ (list : List ℕ). next_heap u journals list marks) (ap (map held) same ∙ own_held heap.edition (roots_of f) heap.roots (live heap) e.finished.roots)
 
     pub own_faults : checked_faults heap f roots marks ≡ next_faults u journals (heap_after (cycle_of heap f marks))
     own_faults = ap (next_faults u journals) own_heap

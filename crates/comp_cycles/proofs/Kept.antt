@@ -1,5 +1,5 @@
 -- At the end of a cycle, the kept objects are the objects of the next heap, and the roots are its roots.
-use Rattle.std.proofs.Common.{◌≡◌, ℕ, zero, suc, ◌+◌, ◌-◌, ◌*◌, ◌<◌, ◌≤◌, Bool, true, false, cond, eqb, ◌==◌, Some, List, [], ◌∷◌, All, length, get_or, map, refl, sym, ap, ap₂, ◌∙◌, inl, inr, ⊎_elim, subst, arith}
+use Rattle.std.proofs.Common.{◌≡◌, ℕ, zero, suc, ◌+◌, ◌-◌, ◌*◌, ◌^◌, ◌<◌, ◌≤◌, ◌||◌, Bool, true, false, cond, eqb, ◌==◌, Some, List, [], ◌∷◌, All, length, get_or, map, refl, sym, ap, ap₂, ◌∙◌, inl, inr, ⊎_elim, subst, arith}
 use Rattle.std.specs.List.{list_any}
 use Rattle.std.proofs.lemmas.Bool.{cases_lt, cases_Bool, both_ways, or_right}
 use Rattle.std.proofs.lemmas.List.{length-map, get_or-map}
@@ -8,7 +8,9 @@ use mathlib.Core.Option.{some}
 use lib.ListN.{get_elem?}
 use Rattle.heap_layout.specs.Header.{Head, header_of, refs_of, size_of}
 use Rattle.heap_layout.specs.Kinds.{count_of, first_of}
-use Rattle.heap_layout.specs.Heap.{Heap, header_at, object_at, from_address, is_target, IsTarget, IsClosed}
+use Rattle.heap_layout.specs.Values.{is_immediate, LeadsNowhere}
+use Rattle.heap_layout.proofs.Values.{value-cases, nowhere-null, nowhere-immediate, nowhere-cases}
+use Rattle.heap_layout.specs.Heap.{Heap, header_at, object_at, from_address, is_target, IsTarget, IsValue, IsClosed}
 use Rattle.heap_layout.specs.declared.kind.Kind.{Kind}
 use Rattle.heap_layout.specs.declared.kind.Kind.TheVariants.{Header, Reference, Weak, Data}
 use Rattle.page_plan.specs.Sliding.{to_address}
@@ -25,7 +27,9 @@ use Rattle.comp_history.specs.OneThread.{OneThreadHeap, HasStart, IsNullOrStart,
 use Rattle.comp_cycles.specs.Stable.{StableHeap, Keeps, IsAmong, IsNullOrAmong, MayKeep, is_among, left_word, left_words, head_of, stepped}
 use Rattle.comp_cycles.specs.Numbered.{Names, number_at, names_in, pointers_of, numbered_object, numbered_word, IsNumberedAs}
 use Rattle.comp_cycles.specs.NextHeap.{word_in, kind_in, lowered, lowered_as, next_heap}
-use Rattle.comp_cycles.proofs.Living.{numbered_reference, numbered_other, header_is, Agrees}
+use Rattle.comp_cycles.specs.Cycles.{AreApart}
+use Rattle.comp_cycles.proofs.Immediates.{lower-immediate}
+use Rattle.comp_cycles.proofs.Living.{number_immediate, numbered_reference, numbered_other, header_is, Agrees}
 use Rattle.comp_cycles.proofs.Leaving.{among_is, none_among, left_other, left_weak, left_long, left_at}
 use Rattle.comp_cycles.proofs.Targets.{object_long, object_word, target_cases, target_mark, marks_once, named_mark, named_null, named_none}
 use Rattle.comp_cycles.proofs.Finals.{head_in, stands, IsWholeAt}
@@ -53,7 +57,7 @@ roots_same f g h [] same = refl
 roots_same f g h (x ∷ xs) same = ap₂ (λ (a : ℕ) (l : List ℕ). a ∷ l) (sym (same 0 (omega arith))) (roots_same f g h xs (λ i lt. same (suc i) (omega (arith, lt))))
 
 module _ (u : Setup) (journals : Journals) (closed_before : IsClosed u.heap) (can : CanMerge u journals) (names : Names) (heap : OneThreadHeap) (stable : StableHeap)
-    (h : Agrees names heap stable) (null : number_at names 0 ≡ 0) (edition_is : heap.edition ≡ u.heap.edition)
+    (h : Agrees names heap stable) (null : number_at names 0 ≡ 0) (edition_is : heap.edition ≡ u.heap.edition) (apart : AreApart u.heap.edition stable.given)
     (word_is : (i : ℕ) → i < 64 * pages u → heap.word (to_address i) ≡ word_in u journals i) (object_is : (a : ℕ) → HasStart heap a → IsObjectAt u journals a)
     (roots marks : List ℕ) (closed : IsClosed (next_heap u journals roots marks)) (started : (k : ℕ) → k < length marks → HasStart heap (to_address (get_or marks k 0)))
     (reached : All (IsNullOrStart heap) roots) (roots_are : stable.roots ≡ map (number_at names) roots)
@@ -100,6 +104,42 @@ module _ (u : Setup) (journals : Journals) (closed_before : IsClosed u.heap) (ca
     head : (k : ℕ) → k < length marks → header k ≡ head_in u journals (mark k)
     head k lt = ap₂ header_of edition_is (word_is (mark k) (let e = inside k lt in omega (arith, e)))
 
+    -- an address, lowered for the next heap
+    abbrev low : ℕ → ℕ
+    low = lowered u.heap.edition
+
+    low_immediate : (w : ℕ) → is_immediate u.heap.edition w ≡ true → low w ≡ w
+    low_immediate w is = ap (λ b. cond b w (w - 2 ^ 32)) is
+
+    low_other : (w : ℕ) → is_immediate u.heap.edition w ≡ false → low w ≡ w - 2 ^ 32
+    low_other w other = ap (λ b. cond b w (w - 2 ^ 32)) other
+
+    -- what leads nowhere and is no immediate is null
+    null_is : (w : ℕ) → is_immediate u.heap.edition w ≡ false → LeadsNowhere heap.edition w → w ≡ 0
+    null_is w other nowhere = ⊎_elim
+        (λ null_here. null_here)
+        (λ (immediate : is_immediate heap.edition w ≡ true). absurd (both_ways (is_immediate u.heap.edition w) other (sym (ap (λ e. is_immediate e w) edition_is) ∙ immediate)))
+        (nowhere-cases heap.edition w nowhere)
+
+    -- a word that is no immediate is none after it was lowered
+    lowered_other : (w : ℕ) → is_immediate u.heap.edition w ≡ false → is_immediate u.heap.edition (w - 2 ^ 32) ≡ false
+    lowered_other w other = lower-immediate u.heap.edition w (w - 2 ^ 32) (omega arith) other
+
+    target_low : (w : ℕ) → is_immediate u.heap.edition w ≡ false → IsValue u.heap.edition marks (low w) → IsTarget marks (w - 2 ^ 32)
+    target_low w other value = ⊎_elim
+        (λ (immediate : is_immediate u.heap.edition (w - 2 ^ 32) ≡ true). absurd (both_ways (is_immediate u.heap.edition (w - 2 ^ 32)) (lowered_other w other) immediate))
+        (λ (target : IsTarget marks (w - 2 ^ 32)). target)
+        (value-cases u.heap.edition marks (w - 2 ^ 32) (subst (IsValue u.heap.edition marks) (low_other w other) value))
+
+    -- the number of an object is 0 if it leads nowhere
+    null_named : (w : ℕ) → HasStart heap w → LeadsNowhere stable.edition (number_at names w) → number_at names w ≡ 0
+    null_named w s nowhere = ⊎_elim
+        (λ none. none)
+        (λ (immediate : is_immediate stable.edition (number_at names w) ≡ true).
+        let g = h.given w s in
+        absurd (both_ways (is_immediate u.heap.edition (number_at names w)) (apart (number_at names w) g.1) (sym (ap (λ e. is_immediate e (number_at names w)) (h.numbered.edition ∙ edition_is)) ∙ immediate)))
+        (nowhere-cases stable.edition (number_at names w) nowhere)
+
     -- the header word of the k-th object in the next heap
     next_first : (k : ℕ) → k < length marks → get_or next.words (mark k) 0 ≡ heap.word (at k)
     next_first k lt =
@@ -121,7 +161,7 @@ module _ (u : Setup) (journals : Journals) (closed_before : IsClosed u.heap) (ca
 
     -- a field of the k-th object in the next heap
     next_field : (k : ℕ) (c : Kind) (f j : ℕ) → k < length marks → f < count_of c (header k) → first_of c (header k) + f ≡ j
-        → get_or next.words (mark k + j) 0 ≡ lowered_as (Some c) (heap.word (at k + j))
+        → get_or next.words (mark k + j) 0 ≡ lowered_as u.heap.edition (Some c) (heap.word (at k + j))
     next_field k c f j lt few place =
         let is = head k lt in
         let first = ap (first_of c) is in
@@ -129,10 +169,10 @@ module _ (u : Setup) (journals : Journals) (closed_before : IsClosed u.heap) (ca
         let kind : kind_in u journals (mark k + j) ≡ Some c =
         ap (kind_in u journals) (let z : mark k + j ≡ mark k + first_of c (head_in u journals (mark k)) + f = omega (arith, place, first) in z)
         ∙ (object k lt).fields c f (subst (λ x. f < count_of c x) is few) in
-        next_kind u journals closed_before can roots marks (mark k + j) (Some c) (room k j lt small) kind ∙ ap (lowered_as (Some c)) (sym (word_of k j lt small))
+        next_kind u journals closed_before can roots marks (mark k + j) (Some c) (room k j lt small) kind ∙ ap (lowered_as u.heap.edition (Some c)) (sym (word_of k j lt small))
 
     -- a reference or weak word of the k-th object is lowered
-    next_pointer : (k j : ℕ) → k < length marks → 1 ≤ j → j ≤ pointers_of (header k) → get_or next.words (mark k + j) 0 ≡ lowered (heap.word (at k + j))
+    next_pointer : (k j : ℕ) → k < length marks → 1 ≤ j → j ≤ pointers_of (header k) → get_or next.words (mark k + j) 0 ≡ low (heap.word (at k + j))
     next_pointer k j lt low few =
         let refs = refs_of (header k) in
         ⊎_elim
@@ -147,17 +187,21 @@ module _ (u : Setup) (journals : Journals) (closed_before : IsClosed u.heap) (ca
         let past = behind (omega arith) in
         next_field k Data (j - pointers_of (header k)) (suc j) lt (omega (arith, few, past)) (omega (arith, past))
 
-    -- where a reference of the next heap leads
-    pub leads : (w : ℕ) → IsNullOrStart heap w → IsTarget marks (lowered w) → (number_at name (lowered w) ≡ number_at names w) × IsNullOrAmong kept (number_at names w)
-    leads w from target = ⊎_elim
-        (λ (none : lowered w ≡ 0). ⊎_elim
-        (λ (zero_is : w ≡ 0). (ap (number_at name) none ∙ named_null next closed kept ∙ sym (ap (number_at names) zero_is ∙ null), inl (ap (number_at names) zero_is ∙ null)))
+    -- a word that is no immediate leads to the same object after it is lowered
+    leads_other : (w : ℕ) → is_immediate u.heap.edition w ≡ false → IsNullOrStart heap w → IsTarget marks (w - 2 ^ 32) → (number_at name (w - 2 ^ 32) ≡ number_at names w) × IsNullOrAmong stable.edition kept (number_at names w)
+    leads_other w other from target = ⊎_elim
+        (λ (none : w - 2 ^ 32 ≡ 0). ⊎_elim
+        (λ (nowhere : LeadsNowhere heap.edition w).
+        let zero_is = null_is w other nowhere in (
+          ap (number_at name) none ∙ named_null next closed kept ∙ sym (ap (number_at names) zero_is ∙ null),
+          inl (nowhere-null stable.edition (number_at names w) (ap (number_at names) zero_is ∙ null)),
+        ))
         (λ (s : HasStart heap w). let up = high w s in absurd (omega (arith, up, none)))
         from)
-        (λ (found : (l : ℕ) × (l < length marks) × (from_address (get_or marks l 0) ≡ lowered w)).
+        (λ (found : (l : ℕ) × (l < length marks) × (from_address (get_or marks l 0) ≡ w - 2 ^ 32)).
         let l = found.0 in
         ⊎_elim
-        (λ (zero_is : w ≡ 0). let e = found.2 in absurd (omega (arith, e, zero_is)))
+        (λ (nowhere : LeadsNowhere heap.edition w). let zero_is = null_is w other nowhere in let e = found.2 in absurd (omega (arith, e, zero_is)))
         (λ (s : HasStart heap w).
         let up = high w s in
         let e = found.2 in
@@ -167,14 +211,34 @@ module _ (u : Setup) (journals : Journals) (closed_before : IsClosed u.heap) (ca
           inr (l, there_is kept l (omega (arith, kept_long, found.1)) ∙ ap some n),
         ))
         from)
-        (target_cases marks (lowered w) target)
+        (target_cases marks (w - 2 ^ 32) target)
 
-    target_of : (k j : ℕ) → k < length marks → 1 ≤ j → j ≤ refs_of (header k) → IsTarget marks (lowered (heap.word (at k + j)))
+    -- an immediate stays one
+    stays_immediate : (w : ℕ) → is_immediate u.heap.edition w ≡ true → (number_at name (low w) ≡ w) × (number_at names w ≡ w)
+    stays_immediate w immediate = (
+      ap (number_at name) (low_immediate w immediate) ∙ number_immediate name w immediate,
+      number_immediate names w (ap (λ e. is_immediate e w) (h.named ∙ edition_is) ∙ immediate),
+    )
+
+    -- where a reference of the next heap leads
+    pub leads : (w : ℕ) → IsNullOrStart heap w → IsValue u.heap.edition marks (low w) → (number_at name (low w) ≡ number_at names w) × IsNullOrAmong stable.edition kept (number_at names w)
+    leads w from value = ⊎_elim
+        (λ (immediate : is_immediate u.heap.edition w ≡ true).
+        let stays = stays_immediate w immediate in (
+          stays.0 ∙ sym stays.1,
+          inl (nowhere-immediate stable.edition (number_at names w) (ap₂ is_immediate (h.numbered.edition ∙ edition_is) stays.1 ∙ immediate)),
+        ))
+        (λ (other : is_immediate u.heap.edition w ≡ false).
+        let to = leads_other w other from (target_low w other value) in
+        (ap (number_at name) (low_other w other) ∙ to.0, to.1))
+        (cases_Bool (is_immediate u.heap.edition w))
+
+    target_of : (k j : ℕ) → k < length marks → 1 ≤ j → j ≤ refs_of (header k) → IsValue u.heap.edition marks (low (heap.word (at k + j)))
     target_of k j lt low few =
         let is = ap refs_of (next_head k lt) in
-        subst (IsTarget marks) (next_pointer k j lt low (omega (arith, few))) (reference-target next closed k j lt low (omega (arith, is, few)))
+        subst (IsValue u.heap.edition marks) (next_pointer k j lt low (omega (arith, few))) (reference-target next closed k j lt low (omega (arith, is, few)))
 
-    leads_of : (k j : ℕ) → k < length marks → 1 ≤ j → j ≤ refs_of (header k) → (number_at name (lowered (heap.word (at k + j))) ≡ number_at names (heap.word (at k + j))) × IsNullOrAmong kept (number_at names (heap.word (at k + j)))
+    leads_of : (k j : ℕ) → k < length marks → 1 ≤ j → j ≤ refs_of (header k) → (number_at name (low (heap.word (at k + j))) ≡ number_at names (heap.word (at k + j))) × IsNullOrAmong stable.edition kept (number_at names (heap.word (at k + j)))
     leads_of k j lt low few = leads (heap.word (at k + j)) (h.leads (at k) j (started k lt) low (omega (arith, few))) (target_of k j lt low few)
 
     -- a number that is kept is the number of a marked object
@@ -183,32 +247,59 @@ module _ (u : Setup) (journals : Journals) (closed_before : IsClosed u.heap) (ca
         let back = at_map_back (λ m. number_at names (to_address m)) marks i n e in
         (i, at_below marks i back.0 back.1, ap (λ m. number_at names (to_address m)) (read_at marks i back.0 0 back.1) ∙ back.2)
 
-    -- a weak word that leads to a kept object still does; any other weak word becomes null
-    weak_leads : (w : ℕ) → IsNullOrStart heap w → cond (is_among kept (number_at names w)) (number_at names w) 0 ≡ number_at name (lowered w)
-    weak_leads w from =
+    -- a weak word that leads to a kept object still does, and an immediate stays; any other weak word becomes null
+    weak_other : (w : ℕ) → is_immediate u.heap.edition w ≡ false → IsNullOrStart heap w → cond (is_among kept (number_at names w)) (number_at names w) 0 ≡ number_at name (w - 2 ^ 32)
+    weak_other w other from =
         let n = number_at names w in
         ⊎_elim
-        (λ (target : is_target marks (lowered w) ≡ true).
-        let to = leads w from target in
+        (λ (target : is_target marks (w - 2 ^ 32) ≡ true).
+        let to = leads_other w other from target in
         ⊎_elim
-        (λ (none : n ≡ 0). zero_either (is_among kept n) n none ∙ sym none ∙ sym to.0)
+        (λ (nowhere : LeadsNowhere heap.edition w).
+        let none : n ≡ 0 = ap (number_at names) (null_is w other nowhere) ∙ null in
+        zero_either (is_among kept n) n none ∙ sym none ∙ sym to.0)
+        (λ (s : HasStart heap w).
+        ⊎_elim
+        (λ (nowhere : LeadsNowhere stable.edition n). let none = null_named w s nowhere in zero_either (is_among kept n) n none ∙ sym none ∙ sym to.0)
         (λ (among : IsAmong kept n). ap (λ b. cond b n 0) (among_is kept n among.0 among.1) ∙ sym to.0)
         to.1)
-        (λ (no_target : is_target marks (lowered w) ≡ false).
-        let gone : number_at name (lowered w) ≡ 0 = named_none next closed kept (lowered w) no_target in
+        from)
+        (λ (no_target : is_target marks (w - 2 ^ 32) ≡ false).
+        let gone : number_at name (w - 2 ^ 32) ≡ 0 = named_none next closed kept (w - 2 ^ 32) (lowered_other w other) no_target in
         ⊎_elim
-        (λ (zero_is : w ≡ 0). zero_either (is_among kept n) n (ap (number_at names) zero_is ∙ null) ∙ sym gone)
+        (λ (nowhere : LeadsNowhere heap.edition w). zero_either (is_among kept n) n (ap (number_at names) (null_is w other nowhere) ∙ null) ∙ sym gone)
         (λ (s : HasStart heap w).
         ap (λ b. cond b n 0)
         (none_among kept n
         (λ i e.
         let k = kept_at n (i, e) in
         let same : at k.0 ≡ w = h.numbered.one (at k.0) w (started k.0 k.1) s k.2 in
-        let found = target_mark marks (lowered w) k.0 k.1 (omega (arith, same)) in
-        both_ways (is_target marks (lowered w)) no_target (or_right (eqb (lowered w) 0) (list_any (λ m. from_address m == lowered w) marks) found)))
+        let found = target_mark marks (w - 2 ^ 32) k.0 k.1 (omega (arith, same)) in
+        both_ways (is_target marks (w - 2 ^ 32)) no_target (or_right (eqb (w - 2 ^ 32) 0) (list_any (λ m. from_address m == w - 2 ^ 32) marks) found)))
         ∙ sym gone)
         from)
-        (cases_Bool (is_target marks (lowered w)))
+        (cases_Bool (is_target marks (w - 2 ^ 32)))
+
+    -- no number of an object is an immediate
+    number_low : (w : ℕ) → is_immediate u.heap.edition w ≡ false → IsNullOrStart heap w → is_immediate u.heap.edition (number_at names w) ≡ false
+    number_low w other from = ⊎_elim
+        (λ (nowhere : LeadsNowhere heap.edition w). ap (is_immediate u.heap.edition) (ap (number_at names) (null_is w other nowhere) ∙ null) ∙ apart 0 (omega arith))
+        (λ (s : HasStart heap w). let g = h.given w s in apart (number_at names w) g.1)
+        from
+
+    weak_leads : (k w : ℕ) → IsNullOrStart heap w
+        → cond (is_immediate (header k).edition (number_at names w) || is_among kept (number_at names w)) (number_at names w) 0 ≡ number_at name (low w)
+    weak_leads k w from =
+        let n = number_at names w in
+        ⊎_elim
+        (λ (immediate : is_immediate u.heap.edition w ≡ true).
+        let stays = stays_immediate w immediate in
+        let here : is_immediate (header k).edition n ≡ true = ap₂ is_immediate edition_is stays.1 ∙ immediate in
+        ap (λ b. cond (b || is_among kept n) n 0) here ∙ stays.1 ∙ sym stays.0)
+        (λ (other : is_immediate u.heap.edition w ≡ false).
+        let here : is_immediate (header k).edition n ≡ false = ap (λ e. is_immediate e n) edition_is ∙ number_low w other from in
+        ap (λ b. cond (b || is_among kept n) n 0) here ∙ weak_other w other from ∙ sym (ap (number_at name) (low_other w other)))
+        (cases_Bool (is_immediate u.heap.edition w))
 
     -- the k-th object is the same in both heaps, after weak words that led to dropped objects became null
     same_object : (k : ℕ) → k < length marks → left_words (head_of stable (number_at names (at k))) kept 0 (stable.words (number_at names (at k))) ≡ numbered_object name (object_at u.heap.edition next.words (mark k))
@@ -245,33 +336,33 @@ module _ (u : Setup) (journals : Journals) (closed_before : IsClosed u.heap) (ca
         read
         ∙ ⊎_elim
         (λ (first : j < 1). stays (λ low. absurd (omega (arith, first, low))))
-        (λ (low : 1 ≤ j). ⊎_elim
+        (λ (low_j : 1 ≤ j). ⊎_elim
         (λ (past : p < j). stays (λ _. past))
         (λ (within : j ≤ p).
-        let from = ap (left_word (header k) kept j) (numbered_reference names p j w low within) in
-        let pointer = numbered_reference name p j v low within ∙ ap (number_at name) (next_pointer k j lt low within) in
+        let from = ap (left_word (header k) kept j) (numbered_reference names p j w low_j within) in
+        let pointer = numbered_reference name p j v low_j within ∙ ap (number_at name) (next_pointer k j lt low_j within) in
         ⊎_elim
         (λ (weak : refs < j).
-        from ∙ left_weak (header k) kept j (number_at names w) (omega (arith, weak)) (omega (arith, within)) ∙ weak_leads w (h.leads (at k) j s low within) ∙ sym pointer)
+        from ∙ left_weak (header k) kept j (number_at names w) (omega (arith, weak)) (omega (arith, within)) ∙ weak_leads k w (h.leads (at k) j s low_j within) ∙ sym pointer)
         (λ (strong : j ≤ refs).
-        from ∙ left_other (header k) kept j (number_at names w) (λ past. absurd (omega (arith, past, strong))) ∙ sym (leads_of k j lt low strong).0 ∙ sym pointer)
+        from ∙ left_other (header k) kept j (number_at names w) (λ past. absurd (omega (arith, past, strong))) ∙ sym (leads_of k j lt low_j strong).0 ∙ sym pointer)
         (cases_lt refs j))
         (cases_lt p j))
         (cases_lt j 1)
         ∙ sym to)
 
     -- where a root of the next heap leads
-    root_leads : (i : ℕ) → i < length roots → (number_at name (lowered (get_or roots i 0)) ≡ number_at names (get_or roots i 0)) × IsNullOrAmong kept (number_at names (get_or roots i 0))
+    root_leads : (i : ℕ) → i < length roots → (number_at name (low (get_or roots i 0)) ≡ number_at names (get_or roots i 0)) × IsNullOrAmong stable.edition kept (number_at names (get_or roots i 0))
     root_leads i lt =
         leads (get_or roots i 0) (reached i 0 lt)
-        (subst (IsTarget marks) (get_or-map lowered roots i 0 0 lt) (closed.roots i 0 (let long = length-map roots lowered in omega (arith, lt, long))))
+        (subst (IsValue u.heap.edition marks) (get_or-map low roots i 0 0 lt) (closed.roots i 0 (let long = length-map roots low in omega (arith, lt, long))))
 
     -- the roots lead to kept objects
-    roots_kept : (n : ℕ) → IsAmong stable.roots n → IsNullOrAmong kept n
+    roots_kept : (n : ℕ) → IsAmong stable.roots n → IsNullOrAmong stable.edition kept n
     roots_kept n among =
         let back = at_map_back (number_at names) roots among.0 n (subst (λ (l : List ℕ). get_elem? l among.0 ≡ some n) roots_are among.1) in
         let inside = at_below roots among.0 back.0 back.1 in
-        subst (IsNullOrAmong kept) (ap (number_at names) (read_at roots among.0 back.0 0 back.1) ∙ back.2) (root_leads among.0 inside).1
+        subst (IsNullOrAmong stable.edition kept) (ap (number_at names) (read_at roots among.0 back.0 0 back.1) ∙ back.2) (root_leads among.0 inside).1
 
     pub may_keep : MayKeep stable kept
     may_keep = record {
@@ -286,7 +377,7 @@ module _ (u : Setup) (journals : Journals) (closed_before : IsClosed u.heap) (ca
           let read : get_or (stable.words n) (1 + field) 0 ≡ number_at names (heap.word (at k.0 + (1 + field))) =
           ap (λ x. get_or (stable.words x) (1 + field) 0) (sym k.2) ∙ h.numbered.words (at k.0) (1 + field) s (omega (arith, small))
           ∙ numbered_reference names p (1 + field) (heap.word (at k.0 + (1 + field))) (omega arith) (omega (arith, small)) in
-          subst (IsNullOrAmong kept) (sym read) (leads_of k.0 (1 + field) k.1 (omega arith) (omega (arith, small))).1;
+          subst (IsNullOrAmong stable.edition kept) (sym read) (leads_of k.0 (1 + field) k.1 (omega arith) (omega (arith, small))).1;
     }
 
     pub numbered_next : IsNumberedAs next kept (stepped stable (Keeps kept))
@@ -294,7 +385,7 @@ module _ (u : Setup) (journals : Journals) (closed_before : IsClosed u.heap) (ca
       edition = h.numbered.edition ∙ edition_is;
       there = refl;
       words = map_same (stepped stable (Keeps kept)).words (λ i. number_at names (to_address i)) (numbered_object name) (object_at u.heap.edition next.words) marks (λ k lt. same_object k lt);
-      roots = roots_are ∙ roots_same (number_at names) (number_at name) lowered roots (λ i lt. (root_leads i lt).0);
+      roots = roots_are ∙ roots_same (number_at names) (number_at name) low roots (λ i lt. (root_leads i lt).0);
       given = λ i lt.
           let inside : i < length marks = omega (arith, lt, kept_long) in
           let g = h.given (at i) (started i inside) in

@@ -1,10 +1,11 @@
 -- The words of an object after only some objects were kept: a weak word that leads to none of them becomes null, all
 -- other words stay.
-use Rattle.std.proofs.Common.{◌≡◌, ℕ, zero, suc, ◌+◌, ◌<◌, ◌≤◌, ◌&&◌, Bool, true, false, cond, eqb, leb, ltb, List, [], ◌∷◌, length, get_or, refl, sym, ap, ◌∙◌, ⊎_elim, arith, eq-eqb, ne_eqb, le-leb}
+use Rattle.std.proofs.Common.{◌≡◌, ℕ, zero, suc, ◌+◌, ◌<◌, ◌≤◌, ◌&&◌, ◌||◌, Bool, true, false, cond, eqb, leb, ltb, List, [], ◌∷◌, length, get_or, refl, sym, ap, ◌∙◌, ⊎_elim, arith, eq-eqb, ne_eqb, le-leb}
 use Rattle.std.proofs.lemmas.Bool.{cases_Bool, and_from, and_parts, leb-true, ltb-true, lt-ltb, or_left, or_right, or_from}
 use mathlib.Core.Option.{some, some-injective, some-ne-none}
 use lib.ListN.{get_elem?}
 use Rattle.heap_layout.specs.Header.{Head}
+use Rattle.heap_layout.specs.Values.{is_immediate}
 use Rattle.heap_layout.specs.Kinds.{first_of}
 use Rattle.heap_layout.specs.declared.kind.Kind.TheVariants.{Weak, Data}
 use Rattle.comp_cycles.specs.Stable.{is_among, left_word, left_words}
@@ -33,13 +34,14 @@ left_other header objects at word behind = ⊎_elim
     let low = leb-true (first_of Weak header) at parts.0 in
     let high = ltb-true at (first_of Data header) parts.1 in
     let past = behind low in absurd (omega (arith, high, past)))
-    (λ (is : range header at ≡ false). ap (λ t. cond t (cond (is_among objects word) word 0) word) is)
+    (λ (is : range header at ≡ false). ap (λ t. cond t (cond (is_immediate header.edition word || is_among objects word) word 0) word) is)
     (cases_Bool (range header at))
 
--- a weak word stays if it leads to a kept object, and becomes null if not
-pub left_weak : (header : Head) (objects : List ℕ) (at word : ℕ) → first_of Weak header ≤ at → at < first_of Data header → left_word header objects at word ≡ cond (is_among objects word) word 0
+-- a weak word stays if it is an immediate or leads to a kept object, and becomes null if not
+pub left_weak : (header : Head) (objects : List ℕ) (at word : ℕ) → first_of Weak header ≤ at → at < first_of Data header → left_word header objects at word
+    ≡ cond (is_immediate header.edition word || is_among objects word) word 0
 left_weak header objects at word low high =
-    ap (λ t. cond t (cond (is_among objects word) word 0) word)
+    ap (λ t. cond t (cond (is_immediate header.edition word || is_among objects word) word 0) word)
     (and_from (leb (first_of Weak header) at) (ltb at (first_of Data header)) (le-leb (first_of Weak header) at low) (lt-ltb at (first_of Data header) high))
 
 -- ---- all words

@@ -1,3 +1,4 @@
+pub mod Immediates
 pub mod Naming
 pub mod ObjectWords
 pub mod Living

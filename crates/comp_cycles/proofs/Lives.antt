@@ -8,13 +8,14 @@ use Rattle.heap_layout.specs.Kinds.{refers, count_of, first_of}
 use Rattle.heap_layout.specs.declared.kind.Kind.{Kind}
 use Rattle.heap_layout.specs.declared.kind.Kind.TheVariants.{Header, Reference, Weak, Data}
 use Rattle.comp_journal.specs.declared.entry.Entry.{Entry}
-use Rattle.comp_history.specs.Lists.{but}
+use Rattle.heap_layout.specs.Values.{is_immediate}
+use Rattle.comp_history.specs.Lists.{but, look}
 use Rattle.page_plan.proofs.Shapes.{field-inside}
 use Rattle.comp_history.specs.OneThread.{OneThreadHeap, HasStart, IsFree, IsFieldIn, IsNullOrStart, MayWrite, IsLegal, header_in, address_of, after, result_of}
 use Rattle.comp_cycles.specs.Stable.{StableHeap, Step, Writes, IsNullOrAmong, MayStep, with_word, stepped, IsLife, lived}
 use Rattle.comp_cycles.specs.Numbered.{Names, number_at, owner, numbered_value, write_of, step_of, numbered, made_by, made_at}
 use Rattle.comp_cycles.proofs.Naming.{at_name}
-use Rattle.comp_cycles.proofs.Living.{owner_is, field_above, refers_below, numbered_field, header_is, may_refer, written, made, wrote, Agrees}
+use Rattle.comp_cycles.proofs.Living.{owner_is, field_above, refers_below, numbered_field, number_is, header_is, may_refer, written, made, wrote, Agrees}
 
 -- the words after a new header are 0
 abbrev pub AreZeros : OneThreadHeap → Kind → ℕ → ℕ → Type 0
@@ -31,8 +32,10 @@ pub record Ordered (names : Names) (heap : OneThreadHeap) (given : ℕ) (later :
   pub keys : List ℕ
   pub numbers : List ℕ
   pub long : length keys ≡ length numbers
-  pub is : names ≡ zip (keys ++ later) (numbers ++ range_with_len (given + 1) (length later))
+  pub is : names.numbers ≡ zip (keys ++ later) (numbers ++ range_with_len (given + 1) (length later))
   pub starts : (i : ℕ) → i < length keys → HasStart heap (get_or keys i 0)
+  -- no new object starts at an address that is an immediate
+  pub low : (i : ℕ) → i < length later → is_immediate names.edition (get_or later i 0) ≡ false
 
 -- how many numbers have been given out after a word of this kind was written
 abbrev pub given_by : Kind → ℕ → ℕ
@@ -50,7 +53,7 @@ next_number names heap given a size later some free o =
     let long : length (keys ++ a ∷ later) ≡ length (numbers ++ (given + 1) ∷ others) =
     length-append keys (a ∷ later) ∙ ap₂ (λ x y. x + y) o.long (ap suc (sym (row_is (given + 1 + 1) (length later)))) ∙ sym (length-append numbers ((given + 1) ∷ others)) in
     let new : get_or (keys ++ a ∷ later) (length keys) 0 ≡ a = get_or-append_right keys (a ∷ later) (length keys) (length keys) 0 refl (omega arith) ∙ ap (λ i. get_or (a ∷ later) i 0) (let z : length keys - length keys ≡ 0 = omega arith in z) in
-    ap (λ l. number_at l a) o.is
+    number_is names a (o.low 0 (omega arith)) ∙ ap (λ l. look 0 l a) o.is
     ∙ at_name (keys ++ a ∷ later) (numbers ++ (given + 1) ∷ others) (length keys) a (omega (arith, length-append keys (a ∷ later))) long new
     (λ i lt e.
     let s = o.starts i lt in
@@ -85,10 +88,11 @@ ordered_next names heap given a value later Header o = record {
       let last : i ≡ length o.keys = omega (arith, lt, new, length-append o.keys (a ∷ [])) in
       start_at (wrote heap Header a value) a (get_or (o.keys ++ a ∷ []) i 0) (sym (ap (λ j. get_or (o.keys ++ a ∷ []) j 0) last ∙ get_or_push o.keys a 0 (length o.keys) refl)) (zero, refl))
       (cases_lt i (length o.keys));
+  low = λ i lt. o.low (suc i) (omega (arith, lt));
 }
-ordered_next names heap given a value later Reference o = record { keys = o.keys; numbers = o.numbers; long = o.long; is = o.is; starts = o.starts }
-ordered_next names heap given a value later Weak o = record { keys = o.keys; numbers = o.numbers; long = o.long; is = o.is; starts = o.starts }
-ordered_next names heap given a value later Data o = record { keys = o.keys; numbers = o.numbers; long = o.long; is = o.is; starts = o.starts }
+ordered_next names heap given a value later Reference o = record { keys = o.keys; numbers = o.numbers; long = o.long; is = o.is; starts = o.starts; low = o.low }
+ordered_next names heap given a value later Weak o = record { keys = o.keys; numbers = o.numbers; long = o.long; is = o.is; starts = o.starts; low = o.low }
+ordered_next names heap given a value later Data o = record { keys = o.keys; numbers = o.numbers; long = o.long; is = o.is; starts = o.starts; low = o.low }
 
 -- What one step does.
 pub record Went (names : Names) (heap : OneThreadHeap) (stable : StableHeap) (step : Step) (given : ℕ) : Type 0 where
@@ -124,7 +128,7 @@ field_goes names heap stable k a value h null r may =
       may = (
         h.numbered.there r.object r.there,
         subst (λ x. r.field < count_of k x) (sym head) r.inside,
-        λ yes. subst (λ b. IsNullOrAmong stable.there (cond b (number_at names value) value)) (sym yes) (may_refer names heap stable h value null (may yes)),
+        λ yes. subst (λ b. IsNullOrAmong stable.edition stable.there (cond b (number_at names value) value)) (sym yes) (may_refer names heap stable h value null (may yes)),
       );
       agrees = subst (λ x. Agrees names (with_field heap a value) (with_word stable n (first_of k x + r.field) numbered_as)) (sym head)
           (subst (λ x. Agrees names (with_field heap x value) (with_word stable n place numbered_as)) here

@@ -10,7 +10,9 @@ use Rattle.heap_layout.specs.Header.{Head, header_of, refs_of, weak_of, size_of}
 use Rattle.heap_layout.specs.Kinds.{refers, count_of, first_of}
 use Rattle.heap_layout.specs.declared.kind.Kind.{Kind}
 use Rattle.heap_layout.specs.declared.kind.Kind.TheVariants.{Header, Reference, Weak, Data}
-use Rattle.comp_history.specs.Lists.{but}
+use Rattle.heap_layout.specs.Values.{is_immediate, IsImmediate, LeadsNowhere}
+use Rattle.heap_layout.proofs.Values.{nowhere-null, nowhere-cases}
+use Rattle.comp_history.specs.Lists.{but, look}
 use Rattle.comp_history.specs.OneThread.{OneThreadHeap, HasStart, IsFree, IsNullOrStart, header_in, starts_after}
 use Rattle.comp_cycles.specs.Stable.{StableHeap, Makes, IsNullOrAmong, head_of, with_word, stepped}
 use Rattle.comp_cycles.specs.Numbered.{Names, number_at, pointers_of, numbered_value, numbered_word, owner, AreNumbered}
@@ -22,6 +24,13 @@ but_same f p q x e = ap (λ t. cond t x (f q)) (eq-eqb q p e)
 
 pub but_other : {A : Type 0} (f : ℕ → A) (p q : ℕ) (x : A) → q ≢ p → but f p x q ≡ f q
 but_other f p q x ne = ap (λ t. cond t x (f q)) (ne_eqb q p ne)
+
+-- the number of an address that is no immediate, and an immediate
+pub number_is : (names : Names) (a : ℕ) → is_immediate names.edition a ≡ false → number_at names a ≡ look 0 names.numbers a
+number_is names a other = ap (λ b. cond b a (look 0 names.numbers a)) other
+
+pub number_immediate : (names : Names) (a : ℕ) → IsImmediate names.edition a → number_at names a ≡ a
+number_immediate names a is = ap (λ b. cond b a (look 0 names.numbers a)) is
 
 -- references and weak words become numbers
 pub numbered_reference : (names : Names) (pointers at word : ℕ) → 1 ≤ at → at ≤ pointers → numbered_word names pointers at word ≡ number_at names word
@@ -103,9 +112,10 @@ owner_is header (t ∷ starts) s a (suc i) e apart le lt = ⊎_elim
 
 -- ---- one step
 
--- The two heaps have the same objects. The objects of the heap of one thread do not overlap, and each reference is null
--- or leads to an object.
+-- The two heaps have the same objects. The objects of the heap of one thread do not overlap, and each reference leads
+-- nowhere or to an object.
 pub record Agrees (names : Names) (heap : OneThreadHeap) (stable : StableHeap) : Type 0 where
+  pub named : names.edition ≡ heap.edition
   pub numbered : AreNumbered names heap stable
   pub apart : (a b : ℕ) → HasStart heap a → HasStart heap b → a < b → a + size_of (header_in heap a) ≤ b
   pub given : (a : ℕ) → HasStart heap a → (1 ≤ number_at names a) × (number_at names a ≤ stable.given)
@@ -121,10 +131,18 @@ module _ (names : Names) (heap : OneThreadHeap) (stable : StableHeap) (h : Agree
   header_is a s = ap₂ header_of h.numbered.edition
       (h.numbered.words a 0 s (omega arith) ∙ numbered_other names (pointers_of (header_in heap a)) 0 (heap.word (a + 0)) (λ (z : 1 ≤ 0). absurd (omega (arith, z))) ∙ ap heap.word (let z : a + 0 ≡ a = omega arith in z))
 
-  -- a value that may be written as a reference is null or has a number in the stable heap
-  pub may_refer : (value : ℕ) → number_at names 0 ≡ 0 → IsNullOrStart heap value → IsNullOrAmong stable.there (number_at names value)
+  -- what leads nowhere does so in object numbers too
+  pub nowhere_too : (value : ℕ) → number_at names 0 ≡ 0 → LeadsNowhere heap.edition value → LeadsNowhere heap.edition (number_at names value)
+  nowhere_too value null nowhere = ⊎_elim
+      (λ (zero_is : value ≡ 0). nowhere-null heap.edition (number_at names value) (ap (number_at names) zero_is ∙ null))
+      (λ (immediate : IsImmediate heap.edition value).
+      subst (LeadsNowhere heap.edition) (sym (number_immediate names value (ap (λ e. is_immediate e value) h.named ∙ immediate))) nowhere)
+      (nowhere-cases heap.edition value nowhere)
+
+  -- a value that may be written as a reference leads nowhere or has a number in the stable heap
+  pub may_refer : (value : ℕ) → number_at names 0 ≡ 0 → IsNullOrStart heap value → IsNullOrAmong stable.edition stable.there (number_at names value)
   may_refer value null leads = ⊎_elim
-      (λ (zero_is : value ≡ 0). inl (ap (number_at names) zero_is ∙ null))
+      (λ (nowhere : LeadsNowhere heap.edition value). inl (subst (λ e. LeadsNowhere e (number_at names value)) (sym h.numbered.edition) (nowhere_too value null nowhere)))
       (λ (s : HasStart heap value). inr (h.numbered.there value s))
       leads
 
@@ -191,6 +209,7 @@ module _ (names : Names) (heap : OneThreadHeap) (stable : StableHeap) (h : Agree
     -- both heaps still agree after the word was written
     pub written : (at ≤ pointers_of (header_in heap object) → IsNullOrStart heap value) → Agrees names heap_then stable_then
     written may = record {
+      named = h.named;
       numbered = record {
         edition = h.numbered.edition;
         there = h.numbered.there;
@@ -267,6 +286,7 @@ module _ (names : Names) (heap : OneThreadHeap) (stable : StableHeap) (h : Agree
 
       pub made : Agrees names heap_made stable_made
       made = record {
+        named = h.named;
         numbered = record {
           edition = h.numbered.edition;
           there = λ b s. ⊎_elim
@@ -324,9 +344,9 @@ module _ (names : Names) (heap : OneThreadHeap) (stable : StableHeap) (h : Agree
             let head = old_head b old in
             let few : k ≤ pointers_of (header_in heap b) = subst (λ x. k ≤ pointers_of x) head high in
             subst (IsNullOrStart heap_made) (sym (but_other heap.word a (b + k) value (old_word b k old (omega (arith, few)))))
-            (⊎_elim (λ zero_is. inl zero_is) (λ (t : HasStart heap (heap.word (b + k))). inr (suc t.0, t.1)) (h.leads b k old low few)))
+            (⊎_elim (λ nowhere. inl nowhere) (λ (t : HasStart heap (heap.word (b + k))). inr (suc t.0, t.1)) (h.leads b k old low few)))
             (λ (new : b ≡ a).
             let few : k ≤ pointers_of header = subst (λ x. k ≤ pointers_of x) (ap (header_in heap_made) new ∙ new_head) high in
-            inl (but_other heap.word a (b + k) value (λ e. omega (arith, e, new, low)) ∙ ap (λ x. heap.word (x + k)) new ∙ zeros k low (omega (arith, few))))
+            inl (nowhere-null heap.edition (but heap.word a value (b + k)) (but_other heap.word a (b + k) value (λ e. omega (arith, e, new, low)) ∙ ap (λ x. heap.word (x + k)) new ∙ zeros k low (omega (arith, few)))))
             (was b s);
       }

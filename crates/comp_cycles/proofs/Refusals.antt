@@ -7,7 +7,7 @@ use Rattle.heap_layout.specs.Heap.{Heap, is_start}
 use Rattle.heap_layout.specs.Faults.{unless, size_faults, mark_faults, root_faults, target_faults, weak_faults, faults, IsFirst, IsAccepted, IsAnswered}
 use Rattle.heap_layout.proofs.Rows.{first-part}
 use Rattle.heap_layout.specs.declared.edition.Edition.{Edition}
-use Rattle.heap_layout.specs.declared.edition.Edition.TheVariants.{One, Two, Three}
+use Rattle.heap_layout.specs.declared.edition.Edition.TheVariants.{One, Two, Three, Four}
 use Rattle.heap_layout.specs.declared.fault.LayoutFault.{LayoutFault}
 use Rattle.heap_layout.specs.declared.fault.LayoutFault.TheVariants.{TooLarge, ObjectPastEnd, ObjectTooLong, MarkNotStart, MarksNotRising, BadRoot, UnmarkedTarget, Truncated, TrailingBytes, BadMagic, OutOfMemory, Device, BadWeak}
 use Rattle.heap_layout.proofs.Bounds.{fresh_pages_most}
@@ -43,6 +43,7 @@ refused_answer edition list fault (inl first) = refused_first list fault first
 refused_answer One list fault (inr memory) = absurd memory
 refused_answer Two list fault (inr memory) = absurd memory
 refused_answer Three list fault (inr memory) = subst (IsRefusedFor list) (sym memory.0) tt
+refused_answer Four list fault (inr memory) = subst (IsRefusedFor list) (sym memory.0) tt
 
 -- the numbers of words, marks and roots have one fault only
 first_size : (words marks roots : Bool) (fault : LayoutFault) → IsFirst ((unless words TooLarge ++ unless marks TooLarge) ++ unless roots TooLarge) fault → fault ≡ TooLarge
@@ -107,7 +108,7 @@ module _ (heap : Heap) (f : Finished) (marks given : List ℕ) (e : IsEndOf heap
   marked = mark_faults (object_starts u journals) 0 marks
 
   abbrev others : List LayoutFault
-  others = root_faults marks next.roots
+  others = root_faults heap.edition marks next.roots
 
   abbrev targets : List LayoutFault
   targets = target_faults heap.edition next.words marks marks
@@ -118,7 +119,7 @@ module _ (heap : Heap) (f : Finished) (marks given : List ℕ) (e : IsEndOf heap
   sizes_are : sizes ≡ own
   sizes_are =
       ap (λ (edition : Edition). size_faults edition (64 * length (pages_of f)) (length marks) (length given)) e.finished.edition
-      ∙ ap₂ (λ (w r : ℕ). size_faults heap.edition w (length marks) r) (ap (λ (n : ℕ). 64 * n) pages_are ∙ sym (next_long u journals e.closed can roots marks)) (sym (length-map roots lowered ∙ length-map given held))
+      ∙ ap₂ (λ (w r : ℕ). size_faults heap.edition w (length marks) r) (ap (λ (n : ℕ). 64 * n) pages_are ∙ sym (next_long u journals e.closed can roots marks)) (sym (length-map roots (lowered heap.edition) ∙ length-map given held))
 
   pub size_refused : (fault : LayoutFault) → IsFirst sizes fault → IsRefusedFor (checked_faults heap f given marks) fault
   size_refused fault first =
@@ -139,11 +140,11 @@ module _ (heap : Heap) (f : Finished) (marks given : List ℕ) (e : IsEndOf heap
       starts_are u journals (64 * length (pages_of f)) words bits moved (ap (λ n. 64 * n) pages_are) i ∙ ap (λ n. ltb i n && bit bits i) (ap (λ n. 64 * n) (sym long))
 
   -- the heap made of the moved words is the next heap
-  pub made_next : (edition : Edition) (words bits lower : List ℕ) → edition ≡ edition_in f → AreMoved u journals (64 * length (pages_of f)) words bits → lower ≡ map lowered roots
+  pub made_next : (edition : Edition) (words bits lower : List ℕ) → edition ≡ edition_in f → AreMoved u journals (64 * length (pages_of f)) words bits → lower ≡ map (lowered edition) roots
       → record { edition = edition; words = words; marks = marks; roots = lower } ≡ next
   made_next edition words bits lower same moved roots_are =
       let w : words ≡ next.words = words_are u journals (64 * length (pages_of f)) words bits moved ∙ ap (λ n. map (next_word u journals) (range_with_len 0 (64 * n))) pages_are in
-      ap (λ e. heap_of e marks words lower) (same ∙ e.finished.edition) ∙ ap₂ (heap_of heap.edition marks) w roots_are
+      ap (λ e. heap_of e marks words lower) (same ∙ e.finished.edition) ∙ ap₂ (heap_of heap.edition marks) w (roots_are ∙ ap (λ (own : Edition). map (lowered own) roots) (same ∙ e.finished.edition))
 
   pub faults_are : sizes ≡ [] → marked ≡ [] → faults next ≡ checked_faults heap f given marks
   faults_are none none_marked = same_faults u journals e.closed can roots marks (sym sizes_are ∙ none) none_marked

@@ -9,7 +9,7 @@ use Rattle.heap_layout.specs.Header.{header_of, size_of}
 use Rattle.heap_layout.specs.Heap.{Heap, header_at, starts, starts_at, is_start, IsPlaced, IsClosed}
 use Rattle.heap_layout.specs.Faults.{unless, size_faults, object_faults, mark_faults, root_faults, target_faults, weak_faults, faults, IsAccepted}
 use Rattle.heap_layout.specs.declared.edition.Edition.{Edition}
-use Rattle.heap_layout.specs.declared.edition.Edition.TheVariants.{One, Two, Three}
+use Rattle.heap_layout.specs.declared.edition.Edition.TheVariants.{One, Two, Three, Four}
 use Rattle.heap_layout.specs.declared.fault.LayoutFault.{LayoutFault}
 use Rattle.heap_layout.specs.declared.fault.LayoutFault.TheVariants.{MarkNotStart}
 use Rattle.heap_layout.specs.declared.kind.Kind.{Kind}
@@ -51,6 +51,7 @@ empty_size : (edition : Edition) → size_of (header_of edition 0) ≡ 1
 empty_size One = refl
 empty_size Two = refl
 empty_size Three = refl
+empty_size Four = refl
 
 -- Words of these kinds: objects, and zeros between them.
 pub record IsObjectRow (edition : Edition) (words : List ℕ) (kind : ℕ → Option Kind) : Type 0 where
@@ -182,8 +183,8 @@ module _ (u : Setup) (journals : Journals) (closed_before : IsClosed u.heap) (ca
   next_is i lt = at_row (next_word u journals) 0 (64 * pages u) i lt ∙ ap (next_word u journals) (let z : 0 + i ≡ i = omega arith in z)
 
   -- words that do not refer stay
-  pub next_kind : (i : ℕ) (o : Option Kind) → i < 64 * pages u → kind_in u journals i ≡ o → get_or next.words i 0 ≡ lowered_as o (word_in u journals i)
-  next_kind i o lt e = next_is i lt ∙ ap (λ k. lowered_as k (word_in u journals i)) e
+  pub next_kind : (i : ℕ) (o : Option Kind) → i < 64 * pages u → kind_in u journals i ≡ o → get_or next.words i 0 ≡ lowered_as u.heap.edition o (word_in u journals i)
+  next_kind i o lt e = next_is i lt ∙ ap (λ k. lowered_as u.heap.edition k (word_in u journals i)) e
 
   stands_at : (i : ℕ) → i < 64 * pages u → kind_in u journals i ≡ Some Header → IsWholeAt u journals i
   stands_at i lt e = stands u journals closed_before can i (is_object u journals closed_before can i lt e)
@@ -236,7 +237,7 @@ module _ (u : Setup) (journals : Journals) (closed_before : IsClosed u.heap) (ca
   marks_list = mark_faults (object_starts u journals) 0 marks
 
   abbrev roots_list : List LayoutFault
-  roots_list = root_faults marks next.roots
+  roots_list = root_faults u.heap.edition marks next.roots
 
   abbrev targets_list : List LayoutFault
   targets_list = target_faults u.heap.edition next.words marks marks

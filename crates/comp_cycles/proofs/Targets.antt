@@ -7,10 +7,13 @@ use Rattle.std.proofs.lemmas.List.{length-map, get_or-map}
 use Rattle.heap_layout.specs.Header.{size_of}
 use Rattle.heap_layout.specs.declared.edition.Edition.{Edition}
 use Rattle.heap_layout.specs.Heap.{Heap, Object, header_at, object_at, live, from_address, is_target, IsPlaced, IsTarget, IsClosed}
+use Rattle.heap_layout.specs.Values.{is_immediate}
+use Rattle.heap_layout.proofs.Bounds.{words_most}
+use Rattle.comp_cycles.proofs.Immediates.{not-immediate}
 use Rattle.page_plan.specs.Sliding.{new_address, number_of, forward}
 use Rattle.comp_cycles.specs.Numbered.{Names, number_at, names_in, pointers_of, numbered_object, numbered_word}
 use Rattle.comp_cycles.proofs.Naming.{at_name, no_name}
-use Rattle.comp_cycles.proofs.Living.{numbered_reference, numbered_other}
+use Rattle.comp_cycles.proofs.Living.{number_is, numbered_reference, numbered_other}
 use Rattle.comp_cycles.proofs.ObjectWords.{words-length, word-changed, word-stays}
 
 -- ---- the words of one object
@@ -95,19 +98,28 @@ module _ (heap : Heap) (closed : IsClosed heap) where
   address_is : (l : ℕ) → l < length heap.marks → get_or (map from_address heap.marks) l 0 ≡ from_address (get_or heap.marks l 0)
   address_is l lt = get_or-map from_address heap.marks l 0 0 lt
 
+  -- no marked object has an immediate for an address
+  pub mark_low : (l : ℕ) → l < length heap.marks → is_immediate heap.edition (from_address (get_or heap.marks l 0)) ≡ false
+  mark_low l lt =
+      let placed = closed.placed l 0 lt in
+      let inside = placed.within in
+      let few = closed.few_words in
+      not-immediate heap.edition (from_address (get_or heap.marks l 0)) (omega (arith, inside, few, words_most heap.edition))
+
   -- the number of a marked object
   pub named_mark : (numbers : List ℕ) (l : ℕ) → length numbers ≡ length heap.marks → l < length heap.marks → number_at (names_in heap numbers) (from_address (get_or heap.marks l 0)) ≡ get_or numbers l 0
   named_mark numbers l count lt =
-      at_name (map from_address heap.marks) numbers l (from_address (get_or heap.marks l 0)) (omega (arith, addresses_long, lt)) (addresses_long ∙ sym count) (address_is l lt)
+      number_is (names_in heap numbers) (from_address (get_or heap.marks l 0)) (mark_low l lt)
+      ∙ at_name (map from_address heap.marks) numbers l (from_address (get_or heap.marks l 0)) (omega (arith, addresses_long, lt)) (addresses_long ∙ sym count) (address_is l lt)
       (λ i below e. let r = marks_rise i l below lt in let a = address_is i (omega (arith, below, lt)) in omega (arith, r, a, e))
 
   -- null has no number
   pub named_null : (numbers : List ℕ) → number_at (names_in heap numbers) 0 ≡ 0
-  named_null numbers = no_name (map from_address heap.marks) numbers 0 (λ i lt e. let a = address_is i (omega (arith, addresses_long, lt)) in omega (arith, a, e))
+  named_null numbers = number_is (names_in heap numbers) 0 (not-immediate heap.edition 0 (omega arith)) ∙ no_name (map from_address heap.marks) numbers 0 (λ i lt e. let a = address_is i (omega (arith, addresses_long, lt)) in omega (arith, a, e))
 
-  -- a word that is no target has no number
-  pub named_none : (numbers : List ℕ) (w : ℕ) → is_target heap.marks w ≡ false → number_at (names_in heap numbers) w ≡ 0
-  named_none numbers w none = no_name (map from_address heap.marks) numbers w
+  -- a word that is no value has no number
+  pub named_none : (numbers : List ℕ) (w : ℕ) → is_immediate heap.edition w ≡ false → is_target heap.marks w ≡ false → number_at (names_in heap numbers) w ≡ 0
+  named_none numbers w other none = number_is (names_in heap numbers) w other ∙ no_name (map from_address heap.marks) numbers w
       (λ i lt e.
       let inside : i < length heap.marks = omega (arith, addresses_long, lt) in
       let found = target_mark heap.marks w i inside (sym (address_is i inside) ∙ e) in

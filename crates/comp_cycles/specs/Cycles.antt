@@ -1,7 +1,9 @@
 -- Cycles that follow one another, and their one history.
-use Rattle.std.specs.Prelude.{◌≡◌, ℕ, ◌+◌, ◌<◌, slice_index, List, [], ◌∷◌, ◌++◌, All, length, map, zip, unwrap_or, Option, Some, None}
+use Rattle.std.specs.Prelude.{◌≡◌, ℕ, ◌+◌, ◌*◌, ◌<◌, ◌≤◌, false, slice_index, List, [], ◌∷◌, ◌++◌, All, length, map, zip, unwrap_or, Option, Some, None}
 use Rattle.std.specs.List.{range_with_len}
 use Rattle.heap_layout.specs.Header.{size_of}
+use Rattle.heap_layout.specs.Values.{is_immediate}
+use Rattle.heap_layout.specs.declared.edition.Edition.{Edition}
 use Rattle.heap_layout.specs.Heap.{Heap, live}
 use Rattle.page_plan.specs.Sliding.{forward, to_address}
 use Rattle.comp_journal.specs.Journal.{replayed}
@@ -48,7 +50,7 @@ given_after c given = given + length (made_at (entries_of c))
 abbrev pub names_of : Cycle → List ℕ → ℕ → Names
 names_of c numbers given =
     let made = made_at (entries_of c) in
-    zip ((first_heap c.setup).starts ++ made) (numbers ++ range_with_len (given + 1) (length made))
+    record { edition = c.setup.heap.edition; numbers = zip ((first_heap c.setup).starts ++ made) (numbers ++ range_with_len (given + 1) (length made)) }
 
 -- the numbers of the objects marked at the end, by rising address
 abbrev pub numbers_after : Cycle → List ℕ → ℕ → List ℕ
@@ -95,8 +97,16 @@ pub record IsSeen (c : Cycle) (names : Names) (stable : StableHeap) (p : ℕ) (s
       → slice_index ((lived stable (numbered names (first_heap c.setup) before)).words (number_at names a)) at
       ≡ numbered_word names (pointers_of (header_in (result_of (first_heap c.setup) before) a)) at (slice_index (replayed (base_of c.setup p) seen) offset)
 
+-- No number up to this one is an immediate. In editions one to three that is always so, in edition four below 2^63.
+abbrev pub AreApart : Edition → ℕ → Type 0
+AreApart edition n = (k : ℕ) → k ≤ n → is_immediate edition k ≡ false
+
+-- no to-space address of the cycle is an immediate
+abbrev pub IsLow : Cycle → Type 0
+IsLow c = AreApart c.setup.heap.edition (to_address (64 * pages c.setup))
+
 -- The writing of a cycle, in the life of a heap whose objects never move. `stable` is that heap when the cycle begins.
-pub record IsWriting (c : Cycle) (numbers : List ℕ) (stable : StableHeap) : Type 0 where
+pub record WritesLife (c : Cycle) (numbers : List ℕ) (stable : StableHeap) : Type 0 where
   -- the entries, in one order, are steps that may be made there
   pub life : IsLife stable (numbered (names_of c numbers stable.given) (first_heap c.setup) (entries_of c))
   -- at each point between two entries the objects are the same in both heaps
@@ -105,9 +115,13 @@ pub record IsWriting (c : Cycle) (numbers : List ℕ) (stable : StableHeap) : Ty
   -- each read of the cycle is a read of the stable heap
   pub seen : (p : ℕ) (seen : List Entry) → p < pages c.setup → StartsWith (c.journals p) seen → IsSeen c (names_of c numbers stable.given) stable p seen
 
+-- The same, if addresses are no immediates.
+abbrev pub IsWriting : Cycle → List ℕ → StableHeap → Type 0
+IsWriting c numbers stable = IsLow c → WritesLife c numbers stable
+
 -- The cycle is a chapter of that life.
-pub record IsChapter (c : Cycle) (numbers : List ℕ) (stable : StableHeap) : Type 0 where
-  pub writing : IsWriting c numbers stable
+pub record TellsChapter (c : Cycle) (numbers : List ℕ) (stable : StableHeap) : Type 0 where
+  pub writing : WritesLife c numbers stable
   -- the whole story may be lived there: what was written, the change of the roots, and then what is kept
   pub life : IsLife stable (story_of c numbers stable.given)
   -- after the story, the kept objects have the words that they have in the next heap, and the roots lead to the same
@@ -120,6 +134,10 @@ pub record IsChapter (c : Cycle) (numbers : List ℕ) (stable : StableHeap) : Ty
   -- if roots were handed in, each root of the next heap leads to the object at the address that was handed in
   pub new_roots : (roots : List ℕ) → c.new_roots ≡ Some roots
       → map (number_at (names_in (heap_after c) (numbers_after c numbers stable.given))) (heap_after c).roots ≡ map (number_at (names_of c numbers stable.given)) roots
+
+-- The same, if object numbers are no immediates.
+abbrev pub IsChapter : Cycle → List ℕ → StableHeap → Type 0
+IsChapter c numbers stable = AreApart c.setup.heap.edition (given_after c stable.given) → TellsChapter c numbers stable
 
 -- Forwarding keeps the order of addresses. So it never maps two addresses to one.
 abbrev pub IsRising : Heap → Type 0
@@ -140,15 +158,24 @@ abbrev pub numbers_left : List Cycle → List ℕ → ℕ → List ℕ
 numbers_left [] numbers given = numbers
 numbers_left (c ∷ cs) numbers given = numbers_left cs (numbers_after c numbers given) (given_after c given)
 
+-- how many object numbers have been given out after the last cycle
+abbrev pub given_left : List Cycle → ℕ → ℕ
+given_left [] given = given
+given_left (c ∷ cs) given = given_left cs (given_after c given)
+
 -- each cycle is a chapter
 abbrev pub AreChapters : List Cycle → List ℕ → StableHeap → Type 0
 AreChapters [] numbers stable = Unit {0}
 AreChapters (c ∷ cs) numbers stable =
-    IsChapter c numbers stable × IsRising c.setup.heap
+    TellsChapter c numbers stable × IsRising c.setup.heap
     × AreChapters cs (numbers_after c numbers stable.given) (lived stable (story_of c numbers stable.given))
 
 -- The cycles from the one heap to the last are one life of a heap whose objects never move.
-pub record IsOneLife (heap : Heap) (cycles : List Cycle) (last : Heap) : Type 0 where
+pub record LivesOnce (heap : Heap) (cycles : List Cycle) (last : Heap) : Type 0 where
   pub life : IsLife (first_numbered heap) (story cycles (first_numbers heap) (length heap.marks))
   pub result : IsNumberedAs last (numbers_left cycles (first_numbers heap) (length heap.marks)) (lived (first_numbered heap) (story cycles (first_numbers heap) (length heap.marks)))
   pub chapters : AreChapters cycles (first_numbers heap) (first_numbered heap)
+
+-- The same, if object numbers are no immediates.
+abbrev pub IsOneLife : Heap → List Cycle → Heap → Type 0
+IsOneLife heap cycles last = AreApart heap.edition (given_left cycles (length heap.marks)) → LivesOnce heap cycles last

@@ -3,6 +3,8 @@ use Rattle.std.specs.Prelude.{◌≡◌, ℕ, ◌+◌, ◌-◌, ◌<◌, ◌≤�
 use Rattle.std.specs.List.{range_with_len}
 use Rattle.heap_layout.specs.Header.{Head, refs_of, weak_of, size_of}
 use Rattle.heap_layout.specs.Kinds.{refers, first_of}
+use Rattle.heap_layout.specs.Values.{is_immediate}
+use Rattle.heap_layout.specs.declared.edition.Edition.{Edition}
 use Rattle.heap_layout.specs.Heap.{Heap, Object, live, from_address}
 use Rattle.heap_layout.specs.declared.kind.Kind.{Kind}
 use Rattle.heap_layout.specs.declared.kind.Kind.TheVariants.{Header, Reference, Weak, Data}
@@ -11,13 +13,14 @@ use Rattle.comp_history.specs.Lists.{look}
 use Rattle.comp_history.specs.OneThread.{OneThreadHeap, HasStart, header_in, address_of, after}
 use Rattle.comp_cycles.specs.Stable.{StableHeap, Step, Makes, Writes, IsAmong}
 
--- addresses of objects, each with its object's number
-abbrev pub Names : Type 0
-Names = List (ℕ × ℕ)
+-- Addresses of objects, each with its object's number, in a heap of this edition.
+pub record Names : Type 0 where
+  pub edition : Edition
+  pub numbers : List (ℕ × ℕ)
 
--- the number of the object that starts at this address; 0 for null, and if no object does
+-- the number of the object that starts at this address; 0 for null, and if no object does; an immediate stands for itself
 abbrev pub number_at : Names → ℕ → ℕ
-number_at names a = look 0 names a
+number_at names a = cond (is_immediate names.edition a) a (look 0 names.numbers a)
 
 -- how many words of an object with this header are null or lead to objects: its references and its weak words
 abbrev pub pointers_of : Head → ℕ
@@ -27,7 +30,7 @@ pointers_of header = refs_of header + weak_of header
 
 -- the live objects, by rising address, each with its number
 abbrev pub names_in : Heap → List ℕ → Names
-names_in heap numbers = zip (map from_address heap.marks) numbers
+names_in heap numbers = record { edition = heap.edition; numbers = zip (map from_address heap.marks) numbers }
 
 -- The words of an object in object numbers: each reference and weak word is a number. A weak word that leads to an
 -- object without a number is 0.

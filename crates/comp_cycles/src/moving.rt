@@ -11,7 +11,7 @@ ghost use Rattle.comp_cycles.specs.NextHeap.{kind_in, lowered_as, word_in};
 use crate::finished::Finished;
 use comp_history::kinds_on;
 use comp_journal::Entry;
-use heap_layout::{FROM_SPACE, Kind, OutOfMemory, set};
+use heap_layout::{Edition, FROM_SPACE, Kind, OutOfMemory, set};
 use page_plan::Builder;
 use std::alloc::{AllocError, Global};
 
@@ -24,38 +24,52 @@ pub struct Moved {
     pub starts: Vec<u64>,
 }
 
-// A to-space word of this kind as a word of the next heap.
-fn lowered_word(kind: Option<Kind>, word: u64) -> u64
-    ensures { result ≡ lowered_as kind word }
+// A to-space word of this kind as a word of the next heap, which has this edition.
+fn lowered_word(edition: Edition, kind: Option<Kind>, word: u64) -> u64
+    ensures { result ≡ lowered_as edition kind word }
 {
     match kind {
-        Some(kind) if kind.refers() => word.saturating_sub(FROM_SPACE),
+        Some(kind) if kind.refers() && !edition.is_immediate(word) => {
+            word.saturating_sub(FROM_SPACE)
+        }
         _ => word,
     }
 }
 
 // Adds one word. Requires room for it.
-fn add_word(words: &mut Vec<u64>, starts: &mut [u64], kind: Option<Kind>, word: u64)
+fn add_word(
+    words: &mut Vec<u64>,
+    starts: &mut [u64],
+    edition: Edition,
+    kind: Option<Kind>,
+    word: u64,
+)
     requires room { vec_len words.old < vec_capacity words.old }
     requires bits { vec_len words.old < 64 * length starts.old }
-    ensures moved { (u : Setup) (journals : Journals) (n : ℕ) → AreMoved u journals n words.old.items starts.old → kind ≡ kind_in u journals n → word ≡ word_in u journals n
+    ensures moved { (u : Setup) (journals : Journals) (n : ℕ) → AreMoved u journals n words.old.items starts.old → edition ≡ u.heap.edition → kind ≡ kind_in u journals n → word ≡ word_in u journals n
         → AreMoved u journals (n + 1) words.new.items starts.new }
     ensures len { vec_len words.new ≡ vec_len words.old + 1 }
     ensures capacity { vec_capacity words.new ≡ vec_capacity words.old }
     ensures bits { length starts.new ≡ length starts.old }
 {
     let i = words.len();
-    words.push_reserved(lowered_word(kind, word));
+    words.push_reserved(lowered_word(edition, kind, word));
     if kind == Some(Kind::Header) {
         set(starts, i);
     }
 }
 
 // Adds the words of page `p`. Requires room for them.
-fn add_page(words: &mut Vec<u64>, starts: &mut [u64], kinds: &[Option<Kind>; 64], page: &[u64; 64])
+fn add_page(
+    words: &mut Vec<u64>,
+    starts: &mut [u64],
+    edition: Edition,
+    kinds: &[Option<Kind>; 64],
+    page: &[u64; 64],
+)
     requires room { vec_len words.old + 64 ≤ vec_capacity words.old }
     requires bits { vec_len words.old + 64 ≤ 64 * length starts.old }
-    ensures moved { (u : Setup) (journals : Journals) (p : ℕ) → AreMoved u journals (64 * p) words.old.items starts.old
+    ensures moved { (u : Setup) (journals : Journals) (p : ℕ) → AreMoved u journals (64 * p) words.old.items starts.old → edition ≡ u.heap.edition
         → ((offset : ℕ) → offset < 64 → slice_index_or kinds.now offset None ≡ kind_at u p (journals p) offset)
         → ((offset : ℕ) → offset < 64 → slice_index page.now offset ≡ word_on u journals p offset)
         → AreMoved u journals (64 * (p + 1)) words.new.items starts.new }
@@ -64,7 +78,7 @@ fn add_page(words: &mut Vec<u64>, starts: &mut [u64], kinds: &[Option<Kind>; 64]
     ensures bits { length starts.new ≡ length starts.old }
 {
     for offset in 0..64 {
-        add_word(words, starts, kinds[offset], page[offset]);
+        add_word(words, starts, edition, kinds[offset], page[offset]);
     }
 }
 
@@ -135,7 +149,7 @@ fn move_pages<B: Builder>(
     for p in 0..finished.pages().len() {
         let kinds = kinds_of(alloc, builder, finished, p)?;
         let page = words_on(alloc, builder, finished, p)?;
-        add_page(words, starts, &kinds, &page);
+        add_page(words, starts, finished.edition(), &kinds, &page);
     }
     Ok(())
 }

@@ -14,7 +14,7 @@ use crate::finished::Finished;
 use crate::laws;
 use crate::moving::{Moved, moved_words};
 use heap_layout::{
-    FROM_SPACE, LayoutFault, MarkedHeap, OutOfMemory, TO_SPACE, check_sizes, is_set,
+    Edition, FROM_SPACE, LayoutFault, MarkedHeap, OutOfMemory, TO_SPACE, check_sizes, is_set,
 };
 use page_plan::Builder;
 use std::alloc::Global;
@@ -50,26 +50,37 @@ fn check_marks(starts: &[u64], marks: &[u32]) -> Result<(), LayoutFault>
 // A word that is no address of from-space.
 const NOWHERE: u64 = 1;
 
-// A root as an address of the next heap's from-space. Null stays null. A word that is no to-space address leads nowhere;
-// it is not taken as null.
-fn lowered_root(root: u64) -> u64
-    ensures { result ≡ lowered (held root) }
+// A root as an address of the next heap's from-space. Null stays null, and an immediate stays as it is. A word below the
+// to-space addresses leads nowhere; it is not taken as null.
+fn lowered_root(edition: Edition, root: u64) -> u64
+    ensures { result ≡ lowered edition (held root) }
 {
     if root == 0 {
         0
     } else if root < TO_SPACE {
         NOWHERE
+    } else if edition.is_immediate(root) {
+        root
     } else {
         root - FROM_SPACE
     }
 }
 
-/// Roots, which are to-space addresses or null, as roots of the next heap. A word that is neither becomes 1, which is no
-/// address of that heap.
-pub fn lowered_roots(alloc: Global, roots: &[u64]) -> Result<Vec<u64>, OutOfMemory>
-    ensures { IfOk result (λ all. all.items ≡ map lowered (map held roots.now)) }
+/// Roots, which are to-space addresses, null or immediates, as roots of the next heap of this edition. A word that is none
+/// of these becomes one that is no address of that heap.
+pub fn lowered_roots(
+    alloc: Global,
+    edition: Edition,
+    roots: &[u64],
+) -> Result<Vec<u64>, OutOfMemory>
+    ensures { IfOk result (λ all. all.items ≡ map (lowered edition) (map held roots.now)) }
 {
-    Ok(roots.iter().map(|&root| lowered_root(root)).collect(alloc)?)
+    Ok(
+        roots
+            .iter()
+            .map(|&root| lowered_root(edition, root))
+            .collect(alloc)?,
+    )
 }
 
 // Checks the numbers of words, marks and roots of the next heap.
@@ -107,10 +118,11 @@ fn next_of<B: Builder>(
     if let Err(fault) = check_marks(&moved.starts, &marks) {
         return Err(fault);
     }
-    let Ok(roots) = lowered_roots(alloc, roots) else {
+    let edition = finished.edition();
+    let Ok(roots) = lowered_roots(alloc, edition, roots) else {
         return Err(LayoutFault::OutOfMemory);
     };
-    MarkedHeap::from_parts_of(finished.edition(), moved.words, marks, roots)
+    MarkedHeap::from_parts_of(edition, moved.words, marks, roots)
 }
 
 // The heap with which the next cycle begins, given its roots and marks; its first fault if it is not accepted.

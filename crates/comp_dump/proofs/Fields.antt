@@ -7,7 +7,7 @@ use Rattle.std.proofs.lemmas.Nat.{le_bytes_4, le_bytes_8}
 use Rattle.byteorder.specs.Endian.{little_number, little_bytes}
 use Rattle.byteorder.specs.Numbers.{little_number-reads_back, length-bytes_low_first, little_from-append}
 use Rattle.heap_layout.specs.declared.edition.Edition.{Edition}
-use Rattle.heap_layout.specs.declared.edition.Edition.TheVariants.{One, Two, Three}
+use Rattle.heap_layout.specs.declared.edition.Edition.TheVariants.{One, Two, Three, Four}
 use Rattle.heap_layout.specs.declared.kind.Kind.{Kind}
 use Rattle.heap_layout.specs.declared.kind.Kind.TheVariants.{Header, Reference, Weak, Data}
 use Rattle.comp_journal.specs.declared.entry.Entry.{Entry}
@@ -120,6 +120,13 @@ spells_edition true Three known = record {
       let whole : ltb (length (front ++ rest)) 4 ≡ false = le-ltb _ _ (omega (arith, length-append front rest)) in
       rw whole refl;
 }
+spells_edition false Four known = absurd known
+spells_edition true Four known = record {
+  again = λ rest.
+      let front = four_bytes (version_of Four) in
+      let whole : ltb (length (front ++ rest)) 4 ≡ false = le-ltb _ _ (omega (arith, length-append front rest)) in
+      rw whole refl;
+}
 
 edition_short : (large : Bool) (bytes : List ℕ) (fault : DumpFault) → EndsBefore 4 fault bytes → Fails fault (reading.edition large bytes)
 unfolding reading.edition
@@ -136,6 +143,10 @@ third_refused : (large : Bool) (n : ℕ) → (IsRead large Three → (n == versi
 third_refused true n differs = differs tt
 third_refused false n differs = refl
 
+fourth_refused : (large : Bool) (n : ℕ) → (IsRead large Four → (n == version_of Four) ≡ false) → (large && (n == version_of Four)) ≡ false
+fourth_refused true n differs = differs tt
+fourth_refused false n differs = refl
+
 -- the bytes begin with a number that is no edition's version
 other_version : (large : Bool) (front rest : List ℕ) → length front ≡ 4 → ((e : Edition) → IsRead large e → version_of e ≢ little_number 4 front) → reading.edition large (front ++ rest) ≡ Err BadMagic
 unfolding reading.edition
@@ -143,7 +154,7 @@ other_version large front rest long none =
     let whole : ltb (length (front ++ rest)) 4 ≡ false = le-ltb _ _ (omega (arith, length-append front rest)) in
     let same : little_number 4 (front ++ rest) ≡ little_number 4 front = little_from-append 4 front rest (omega arith) in
     let test : (e : Edition) → IsRead large e → (little_number 4 front == version_of e) ≡ false = λ e known. ne_eqb _ _ (λ is. none e known (sym is)) in
-    rw (whole, same, test One tt, test Two tt, third_refused large (little_number 4 front) (test Three)) refl
+    rw (whole, same, test One tt, test Two tt, third_refused large (little_number 4 front) (test Three), fourth_refused large (little_number 4 front) (test Four)) refl
 
 pub stops_version : (large : Bool) (n : ℕ) (a b : Option (List ℕ)) (front : List ℕ) → Consumes a b front → length front ≡ 4 → n ≡ little_number 4 front
     → ((e : Edition) → IsRead large e → version_of e ≢ n) → Stops (reading.edition large) a BadMagic

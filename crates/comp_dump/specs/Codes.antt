@@ -1,7 +1,7 @@
 -- The code of a kind in a dump.
 use Rattle.std.specs.Prelude.{ℕ}
 use Rattle.heap_layout.specs.declared.edition.Edition.{Edition}
-use Rattle.heap_layout.specs.declared.edition.Edition.TheVariants.{One, Two, Three}
+use Rattle.heap_layout.specs.declared.edition.Edition.TheVariants.{One, Two, Three, Four}
 use Rattle.heap_layout.specs.declared.kind.Kind.{Kind}
 use Rattle.heap_layout.specs.declared.kind.Kind.TheVariants.{Header, Reference, Weak, Data}
 
@@ -16,3 +16,4 @@ abbrev pub last_code : Edition → ℕ
 last_code One = 2
 last_code Two = 3
 last_code Three = 3
+last_code Four = 3

@@ -3,7 +3,7 @@
 use Rattle.std.specs.Prelude.{◌≡◌, ℕ, zero, suc, ◌+◌, ◌-◌, ◌^◌, ◌<◌, ◌||◌, ◌==◌, nat_lt, bytes_eq, Bool, false, ◌&&◌, List, [], ◌∷◌, length, take, drop, Option, Some, None, Result, Ok, Err, if◌then◌else◌}
 use Rattle.byteorder.specs.Endian.{little_number}
 use Rattle.heap_layout.specs.declared.edition.Edition.{Edition}
-use Rattle.heap_layout.specs.declared.edition.Edition.TheVariants.{One, Two, Three}
+use Rattle.heap_layout.specs.declared.edition.Edition.TheVariants.{One, Two, Three, Four}
 use Rattle.heap_layout.specs.declared.kind.Kind.{Kind}
 use Rattle.heap_layout.specs.declared.kind.Kind.TheVariants.{Header, Reference, Weak, Data}
 use Rattle.comp_journal.specs.declared.entry.Entry.{Entry}
@@ -99,13 +99,14 @@ expected wanted bytes =
     else if bytes_eq (take (length wanted) bytes) wanted then Ok (wanted, drop (length wanted) bytes)
     else Err BadMagic
 
--- the version, read as the edition that it gives; version 3 only if `large`
+-- the version, read as the edition that it gives; versions 3 and 4 only if `large`
 unfoldable pub edition : Bool → Reading Edition
 edition large bytes =
     if nat_lt (length bytes) 4 then Err Truncated
     else if little_number 4 bytes == version_of One then Ok (One, drop 4 bytes)
     else if little_number 4 bytes == version_of Two then Ok (Two, drop 4 bytes)
     else if large && (little_number 4 bytes == version_of Three) then Ok (Three, drop 4 bytes)
+    else if large && (little_number 4 bytes == version_of Four) then Ok (Four, drop 4 bytes)
     else Err BadMagic
 
 -- the edition, and the numbers of mutators, fresh pages, pages and roots

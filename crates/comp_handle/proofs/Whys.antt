@@ -4,7 +4,7 @@ use Rattle.std.specs.Result.{IfErr}
 use Rattle.heap_layout.specs.Faults.{faults, IsAnswered, IsRefusedMemory}
 use Rattle.heap_layout.specs.Heap.{Heap}
 use Rattle.heap_layout.specs.declared.edition.Edition.{Edition}
-use Rattle.heap_layout.specs.declared.edition.Edition.TheVariants.{One, Two, Three}
+use Rattle.heap_layout.specs.declared.edition.Edition.TheVariants.{One, Two, Three, Four}
 use Rattle.heap_layout.specs.declared.fault.LayoutFault.{LayoutFault}
 use Rattle.heap_layout.specs.declared.fault.LayoutFault.TheVariants.{TooLarge, ObjectPastEnd, ObjectTooLong, MarkNotStart, MarksNotRising, BadRoot, UnmarkedTarget, Truncated, TrailingBytes, BadMagic, OutOfMemory, Device, BadWeak}
 use Rattle.reachability.specs.Reachable.{RefusesFor}
@@ -19,6 +19,7 @@ memory_is : (edition : Edition) (list : List LayoutFault) (fault : LayoutFault) 
 memory_is One list fault h = absurd h
 memory_is Two list fault h = absurd h
 memory_is Three list fault h = h.0
+memory_is Four list fault h = h.0
 
 -- why a heap with these marks is refused
 pub why_answered : (edition : Edition) (heap : Heap) (fault : LayoutFault) → IsAnswered edition (faults heap) fault → IsWhy heap fault

@@ -2,7 +2,7 @@
 use Rattle.std.specs.Prelude.{◌≡◌, ℕ, ◌⊎◌, List, Option, None, Some}
 use Rattle.heap_layout.specs.Faults.{IsAccepted}
 use Rattle.heap_layout.specs.declared.fault.LayoutFault.{LayoutFault}
-use Rattle.comp_crew.specs.Cycles.{heap_after, numbers_after, IsChapter, IsCycleOf}
+use Rattle.comp_crew.specs.Cycles.{given_after, heap_after, numbers_after, AreApart, IsChapter, IsCycleOf}
 use Rattle.comp_crew.specs.Ends.{cycle_of, cycle_with, setup_in, IsRefusedFor}
 use Rattle.comp_crew.specs.Finishes.{journals_of, live_of}
 use Rattle.comp_crew.specs.Finishing.{finished_of, heap_of, AreAllToldApart, IsEndBy, IsOfTheirFlip, IsUnfinishedFor, KeepsMembers}
@@ -97,6 +97,7 @@ pub record IsNextReached (roots marks : List ℕ) (e : End) (l : Kept) : Type 0 
   pub cycle : IsCycleOf (heap_of e) (cycle_with (heap_of e) (finished_of e) roots marks)
   pub chapter : (numbers : List ℕ) (stable : StableHeap) → IsNumberedAs (heap_of e) numbers stable → IsChapter (cycle_with (heap_of e) (finished_of e) roots marks) numbers stable
   pub keeps : (numbers : List ℕ) (stable : StableHeap) → IsNumberedAs (heap_of e) numbers stable
+      → AreApart (heap_of e).edition (given_after (cycle_with (heap_of e) (finished_of e) roots marks) stable.given)
       → KeepsExactly (written (cycle_with (heap_of e) (finished_of e) roots marks) numbers stable) (numbers_after (cycle_with (heap_of e) (finished_of e) roots marks) numbers stable.given)
 
 -- a finished heap becomes that heap; or stays, and the answer says why

@@ -71,7 +71,7 @@ fn accept(
     }
 }
 
-/// Makes a marked heap of this edition, 1 to 3, from its words, its marks and its roots. If it is refused, the handle
+/// Makes a marked heap of this edition, 1 to 4, from its words, its marks and its roots. If it is refused, the handle
 /// stays as it is.
 pub fn put_heap(
     alloc: Global,
@@ -128,7 +128,7 @@ fn accept_reached(
     }
 }
 
-/// Makes a heap of this edition, 1 to 3, from its words and its roots, and marks exactly the objects that the roots
+/// Makes a heap of this edition, 1 to 4, from its words and its roots, and marks exactly the objects that the roots
 /// reach. If it is refused, the handle stays as it is.
 pub fn put_marked(
     alloc: Global,

@@ -6,7 +6,7 @@ use lib.ListN.{get_elem?}
 use Rattle.heap_layout.specs.Header.{Head, header_of, weak_of}
 use Rattle.heap_layout.specs.Heap.{IsClosed}
 use Rattle.heap_layout.specs.declared.edition.Edition.{Edition}
-use Rattle.heap_layout.specs.declared.edition.Edition.TheVariants.{One, Two, Three}
+use Rattle.heap_layout.specs.declared.edition.Edition.TheVariants.{One, Two, Three, Four}
 use Rattle.heap_layout.specs.declared.kind.Kind.{Kind}
 use Rattle.heap_layout.specs.declared.kind.Kind.TheVariants.{Weak}
 use Rattle.page_plan.proofs.Owners.{objects_stand}
@@ -23,6 +23,7 @@ has_weak : (edition : Edition) (word f : ℕ) → f < weak_of (header_of edition
 has_weak One word f lt = absurd (omega (arith, lt))
 has_weak Two word f lt = λ same. cc
 has_weak Three word f lt = λ same. cc
+has_weak Four word f lt = λ same. cc
 
 module _ (u : Setup) (closed : IsClosed u.heap) (p : ℕ) where
   weak_word : (before : List Entry) (o : ℕ) → LawfulAfter u p [] before → IsField u p before Weak o → u.heap.edition ≢ One

@@ -5,6 +5,7 @@ use Rattle.std.specs.List.{range_with_len}
 use mathlib.Core.Option.{some}
 use lib.ListN.{get_elem?}
 use Rattle.heap_layout.specs.Header.{Head, header_of, size_of}
+use Rattle.heap_layout.specs.Values.{LeadsNowhere}
 use Rattle.heap_layout.specs.Heap.{live}
 use Rattle.heap_layout.specs.declared.kind.Kind.{Kind}
 use Rattle.heap_layout.specs.declared.kind.Kind.TheVariants.{Header, Reference, Weak, Data}
@@ -50,13 +51,13 @@ pub record IsFieldIn (heap : OneThreadHeap) (k : Kind) (a : ℕ) : Type 0 where
 abbrev pub IsFree : OneThreadHeap → ℕ → ℕ → Type 0
 IsFree heap a size = (object : ℕ) → HasStart heap object → (object + size_of (header_in heap object) ≤ a) ⊎ (a + size ≤ object)
 
--- the value is null or the start of an object of the heap
+-- the value is null or the start of an object of the heap, or in edition four an immediate
 abbrev pub IsNullOrStart : OneThreadHeap → ℕ → Type 0
-IsNullOrStart heap value = (value ≡ 0) ⊎ HasStart heap value
+IsNullOrStart heap value = LeadsNowhere heap.edition value ⊎ HasStart heap value
 
 -- The value may be written at this address. A header: all words of the new object must be free. A reference or weak
--- word: it must hit a word of this kind, and be null or lead to an object that already exists. A data word: it must hit
--- a data word.
+-- word: it must hit a word of this kind, and be null, an immediate, or lead to an object that already exists. A data
+-- word: it must hit a data word.
 abbrev pub MayWrite : OneThreadHeap → Kind → ℕ → ℕ → Type 0
 MayWrite heap Header a value = IsFree heap a (size_of (header_of heap.edition value))
 MayWrite heap Reference a value = IsFieldIn heap Reference a × IsNullOrStart heap value

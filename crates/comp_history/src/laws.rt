@@ -49,7 +49,7 @@ pub fn objects_fit()
         → allocated u.heap.edition (history u journals) ≤ 64 * u.fresh }
 {}
 
-/// Each word that refers on each page is null or the start of an object.
+/// Each word that refers on each page is null or the start of an object, or in edition four an immediate.
 pub fn merged_references_are_starts()
     ensures { (u : Setup) (journals : Journals) → CanMerge u journals
         → ReferencesAreStarts u journals }

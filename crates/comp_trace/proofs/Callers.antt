@@ -3,7 +3,7 @@
 use Rattle.std.proofs.Common.{◌≡◌, ℕ, List, [], length, map, Some, inl, sym, ap, ◌∙◌}
 use Rattle.std.proofs.lemmas.List.{length-map}
 use Rattle.heap_layout.specs.Heap.{Heap, live}
-use Rattle.comp_mutator.specs.Sliding.{forward}
+use Rattle.comp_mutator.specs.Sliding.{forward_value}
 use Rattle.comp_mutator.specs.Builder.{Ghosts}
 use Rattle.comp_mutator.specs.Steps.{Steps}
 use Rattle.comp_mutator.specs.CellViews.{steps_of, AreNew}
@@ -17,7 +17,7 @@ use Rattle.comp_trace.specs.WrittenEntries.{DidNothingYet}
 use Rattle.comp_trace.specs.AllMutators.{AreAll}
 
 pub roots_count : (heap : Heap) (roots : List ℕ) → AreForwarded heap roots → length roots ≡ length heap.roots
-roots_count heap roots h = sym (length-map roots (λ (address : ℕ). Some address)) ∙ ap length h ∙ length-map heap.roots (forward (live heap))
+roots_count heap roots h = sym (length-map roots (λ (address : ℕ). Some address)) ∙ ap length h ∙ length-map heap.roots (forward_value heap.edition (live heap))
 
 pub all_of : {L : Type 0} {B : Type 0} {g : Ghosts B} (space : Space L B g) (n : ℕ) (mutators : List (Mutator L)) → AreMutatorsOf space mutators
     → AreNew (steps_of (cells_of space)) n (map pass_of mutators) → (setup_of space).mutators ≡ n → AreAll space mutators

@@ -7,7 +7,7 @@ use Rattle.comp_mutator.proofs.Rows.{at_map, at_map_back}
 use Rattle.std.specs.Prelude.{Bool, Option, None, OnErr, OnOk}
 use Rattle.heap_layout.specs.Heap.{live}
 use Rattle.heap_layout.specs.Header.{header_with, Head}
-use Rattle.comp_mutator.specs.Sliding.{forward}
+use Rattle.comp_mutator.specs.Sliding.{forward_value}
 use Rattle.heap_layout.specs.declared.kind.Kind.{Kind}
 use Rattle.heap_layout.specs.declared.kind.Kind.TheVariants.{Data}
 use Rattle.comp_mutator.specs.Setup.{Setup}
@@ -105,7 +105,7 @@ made u to refs weak data_words tag registers old new (Ok a) grows allocated =
 made u to refs weak data_words tag registers old new (Err refusal) grows allocated = tt
 
 -- a root was taken
-pub rooted : (u : Setup) (to root : ℕ) (registers : List ℕ) (pass : Pass) (word_address : ℕ) → forward (live u.heap) (get_or u.heap.roots root 0) ≡ Some word_address
+pub rooted : (u : Setup) (to root : ℕ) (registers : List ℕ) (pass : Pass) (word_address : ℕ) → forward_value u.heap.edition (live u.heap) (get_or u.heap.roots root 0) ≡ Some word_address
     → Steps u (Root to root) registers pass pass word_address
 rooted u to root registers pass word_address leads = record { grows = grows_none pass; answers = (refl, leads); builds = refl }
 

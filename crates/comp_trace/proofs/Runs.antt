@@ -65,8 +65,8 @@ module _ (mutators fresh : ℕ) where
         runs = h;
         follow = follow;
         life = whole;
-        last = writes (cycle_of (last_heap heap cs) f []) (numbers_left cs (first_numbers heap) (length heap.marks)) (lived (first_numbered heap) (story cs (first_numbers heap) (length heap.marks)))
-            end.closed end.finished.history.merges whole.result;
+        last = λ apart. writes (cycle_of (last_heap heap cs) f []) (numbers_left cs (first_numbers heap) (length heap.marks)) (lived (first_numbered heap) (story cs (first_numbers heap) (length heap.marks)))
+            end.closed end.finished.history.merges (whole apart).result;
         rising = rising (setup_in (last_heap heap cs) f) end.closed refl;
       }
 

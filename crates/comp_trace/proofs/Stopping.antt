@@ -123,4 +123,4 @@ stops_first mutators fresh heap lines rest (Unfinished values) h = inr (inr (val
 -- the number of roots is unchanged
 pub same_roots : (now next : Heap) (f : Finished) (given : Option (List ℕ)) → IsEndOf now f → IsMarkedNext given now f next → length next.roots ≡ length now.roots
 same_roots now next f given e h =
-    ap (λ (n : Heap). length n.roots) h.next_is ∙ length-map (roots_of f) lowered ∙ roots_count now (roots_of f) e.finished.roots
+    ap (λ (n : Heap). length n.roots) h.next_is ∙ length-map (roots_of f) (lowered now.edition) ∙ roots_count now (roots_of f) e.finished.roots

@@ -3,7 +3,7 @@ use Rattle.std.specs.Prelude.{◌≡◌, ℕ, ◌<◌, List, [], ◌∷◌, leng
 use Rattle.heap_layout.specs.Heap.{live}
 use Rattle.heap_layout.specs.Header.{header_with}
 use Rattle.heap_layout.specs.declared.kind.Kind.TheVariants as kinds
-use Rattle.comp_mutator.specs.Sliding.{forward}
+use Rattle.comp_mutator.specs.Sliding.{forward_value}
 use Rattle.comp_mutator.specs.Setup.{Setup}
 use Rattle.comp_mutator.specs.Passes.{did, seen, MayRefer}
 use Rattle.comp_mutator.specs.Pass.{Pass}
@@ -55,7 +55,7 @@ shown_at n (Nil to) answer = []
 -- then seen give, a write the stamp of its one entry, an allocation the address of the new object. A root answers its
 -- forwarding address, and makes no call.
 abbrev pub Answers : Setup → Action → List ℕ → Pass → Pass → ℕ → Type 0
-Answers u (Root to root) registers old new answer = (new ≡ old) × (forward (live u.heap) (slice_index u.heap.roots root) ≡ Some answer)
+Answers u (Root to root) registers old new answer = (new ≡ old) × (forward_value u.heap.edition (live u.heap) (slice_index u.heap.roots root) ≡ Some answer)
 Answers u (Load weak to object field) registers old new answer =
     (did new ≡ did old) × Reads u (seen new) (kind_if weak) (slice_index registers object) field answer × MayRefer new answer
 Answers u (Get object field) registers old new answer = (did new ≡ did old) × Reads u (seen new) kinds.Data (slice_index registers object) field answer

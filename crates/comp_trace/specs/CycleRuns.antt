@@ -1,7 +1,7 @@
 -- Cycles over which traces are run, one after the other, by one thread.
 use Rattle.std.specs.Prelude.{◌≡◌, ℕ, List, [], ◌∷◌, length, Option, None}
 use Rattle.heap_layout.specs.Heap.{Heap}
-use Rattle.comp_cycles.specs.Cycles.{Cycle, entries_of, heap_after, numbers_left, story, Follow, IsCycleOf, IsOneLife, IsRising, IsWriting}
+use Rattle.comp_cycles.specs.Cycles.{Cycle, entries_of, given_left, heap_after, numbers_left, story, AreApart, Follow, IsCycleOf, IsOneLife, IsRising, IsWriting}
 use Rattle.comp_cycles.specs.Ends.{cycle_of, IsEndOf}
 use Rattle.comp_cycles.specs.Stable.{lived}
 use Rattle.comp_cycles.specs.Numbered.{first_numbers, first_numbered}
@@ -83,7 +83,8 @@ pub record CyclesRan (mutators fresh : ℕ) (heap : Heap) (lines : List Line) (r
   pub runs : AreRuns mutators fresh heap lines rest shown cycles f
   pub follow : Follow heap cycles (last_heap heap cycles)
   pub life : IsOneLife heap cycles (last_heap heap cycles)
-  -- what was written in the last cycle is written in that life too
-  pub last : IsWriting (cycle_of (last_heap heap cycles) f []) (numbers_left cycles (first_numbers heap) (length heap.marks)) (lived (first_numbered heap) (story cycles (first_numbers heap) (length heap.marks)))
+  -- what was written in the last cycle is written in that life too, if no object's number is an immediate
+  pub last : AreApart heap.edition (given_left cycles (length heap.marks))
+      → IsWriting (cycle_of (last_heap heap cycles) f []) (numbers_left cycles (first_numbers heap) (length heap.marks)) (lived (first_numbered heap) (story cycles (first_numbers heap) (length heap.marks)))
   -- the forwarding of the last cycle keeps the order of addresses
   pub rising : IsRising (last_heap heap cycles)

@@ -61,7 +61,7 @@ MakesAsked u journals m (Some header) added word_address = MakesObject u journal
 -- What a line of mutator m answers, and the entries that it adds, if its registers hold these words and the pages have
 -- these journals.
 abbrev pub Acts : Setup → Journals → ℕ → Action → List ℕ → List (ℕ × Entry) → ℕ → Type 0
-Acts u journals m (Root to root) registers added answer = (added ≡ []) × (sliding.forward (live u.heap) (slice_index u.heap.roots root) ≡ Some answer)
+Acts u journals m (Root to root) registers added answer = (added ≡ []) × (sliding.forward_value u.heap.edition (live u.heap) (slice_index u.heap.roots root) ≡ Some answer)
 Acts u journals m (Load weak to object field) registers added answer = (added ≡ []) × Reads u journals (kind_if weak) (slice_index registers object) field answer
 Acts u journals m (Get object field) registers added answer = (added ≡ []) × Reads u journals Data (slice_index registers object) field answer
 Acts u journals m (Store weak object field value) registers added answer =

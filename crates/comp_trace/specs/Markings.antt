@@ -2,7 +2,7 @@
 use Rattle.std.specs.Prelude.{◌≡◌, ℕ, List, Option, Some, None}
 use Rattle.heap_layout.specs.Heap.{Heap}
 use Rattle.heap_layout.specs.declared.fault.LayoutFault.{LayoutFault}
-use Rattle.comp_cycles.specs.Cycles.{Cycle, heap_after, numbers_after, IsCycleOf}
+use Rattle.comp_cycles.specs.Cycles.{Cycle, given_after, heap_after, numbers_after, AreApart, IsCycleOf}
 use Rattle.comp_cycles.specs.Ends.{cycle_of, setup_in, IsRefusedFor}
 use Rattle.comp_cycles.specs.Finishes.{journals_of}
 use Rattle.comp_cycles.specs.NextHeap.{next_faults}
@@ -33,7 +33,7 @@ pub record IsMarkedCycle (given : Option (List ℕ)) (heap : Heap) (c : Cycle) :
 -- if the heap is marked by what its roots reach, the cycle keeps exactly the objects that the roots reach when it ends
 abbrev pub KeepsReached : Option (List ℕ) → Heap → Cycle → Type 0
 KeepsReached (Some marks) heap c = Unit {0}
-KeepsReached None heap c = (numbers : List ℕ) (stable : StableHeap) → IsNumberedAs heap numbers stable
+KeepsReached None heap c = (numbers : List ℕ) (stable : StableHeap) → IsNumberedAs heap numbers stable → AreApart heap.edition (given_after c stable.given)
     → KeepsExactly (written c numbers stable) (numbers_after c numbers stable.given)
 
 -- Why no heap follows what is left of a cycle. With marks that are given it is the first fault of the next heap. Marked

@@ -20,7 +20,12 @@
      COMP_WRONG_HANDLE   a handle that it reads keeps something else than the call names. The value of both is 1 if it
                          is the second handle of comp_give or comp_meet, and else 0;
      COMP_OUT_OF_MEMORY  an allocation was refused; the call may be made again. The calls that take no memory say so.
-   The other refusals stand at each call, in their order, with their values in brackets. */
+   The other refusals stand at each call, in their order, with their values in brackets.
+
+   Immediates. In a heap of edition four a root, a reference or a weak word may also be a word from
+   COMP_FIRST_IMMEDIATE on: an immediate. Wherever null is allowed below as a value, an immediate is too; it leads
+   nowhere, and no call changes it. As the object of a read or a write it is COMP_NOT_A_START. In editions one to three
+   there are none: such a word is refused there. */
 #ifndef COMPRESSOR_H
 #define COMPRESSOR_H
 
@@ -36,6 +41,9 @@ typedef struct comp_handle {
 } comp_handle;
 
 #define COMP_EMPTY {0}
+
+/* The first immediate, in edition four. No address is one. */
+#define COMP_FIRST_IMMEDIATE (UINT64_C(1) << 63)
 
 typedef struct comp_answer {
     uint32_t status;
@@ -58,7 +66,7 @@ enum comp_status {
     COMP_NOT_A_START = 3,       /* the mutator knows of no object at this address */
     COMP_NO_SUCH_FIELD = 4,     /* the object has no field of this kind with this index */
     COMP_NOT_IN_EDITION = 5,    /* weak words in edition one, a tag of 2^16 or more in edition two, of 2^14 or more in
-                                   edition three */
+                                   editions three and four */
     COMP_OBJECT_TOO_LARGE = 6,  /* more than 64 words */
     COMP_OUT_OF_PAGES = 7,      /* no own fresh page has room: end the cycle */
     COMP_JOURNAL_FULL = 8,      /* this page has 1,024 entries: end the cycle */
@@ -87,7 +95,7 @@ enum comp_status {
 
 /* THE HEAP */
 
-/* Puts a marked heap of edition 1, 2 or 3 into out, whatever that kept before. The arrays are copied. The words are
+/* Puts a marked heap of edition 1, 2, 3 or 4 into out, whatever that kept before. The arrays are copied. The words are
    from-space (docs/FORMATS.md), the marks the rising indices of the marked objects, the roots from-space addresses or
    null; each root and each reference of a marked object is null or leads to a marked object. Refusals: COMP_BAD_EDITION
    (the edition); COMP_LAYOUT + 1 to + 7 and + 13, the first fault of the heap; without memory COMP_OUT_OF_MEMORY,
@@ -114,7 +122,7 @@ comp_answer comp_plan(comp_handle *heap);
    pages k, k + n, k + 2n and so on, counted from 0. So a mutator that only sweeps has its share too, and leaves it
    unused: ask for more.
    Refusals: COMP_BAD_COUNTS, if mutators is not 1 to 64, or fresh_pages is above 4,096 in editions one and two, or
-   above 2^20 in edition three. */
+   above 2^20 in editions three and four. */
 comp_answer comp_flip(comp_handle *plan, uint64_t name, uint32_t mutators, uint32_t fresh_pages, comp_handle *crew);
 
 /* Takes a mutator out of the crew into out, whatever that kept before, and answers its number. It is the one that was
@@ -161,9 +169,9 @@ comp_answer comp_write_data(comp_handle *mutator, uint64_t object, uint32_t fiel
 /* Makes an object of null references, null weak words and zero data words, on the lowest of the mutator's own fresh
    pages that has room. It has 1 + refs + weak + data_words words, at most 64. Answers its address.
    Refusals: COMP_NOT_IN_EDITION, for weak words in edition one, a tag of 2^16 or more in edition two, of 2^14 or more
-   in edition three; COMP_OBJECT_TOO_LARGE; COMP_OUT_OF_PAGES; then for the page with room COMP_BUSY (the page),
-   COMP_JOURNAL_FULL (the page) and COMP_OUT_OF_MEMORY, after which that page may be built, and no object is made. A
-   count above 65,535 is taken as 65,535, which is too large as well. */
+   in editions three and four; COMP_OBJECT_TOO_LARGE; COMP_OUT_OF_PAGES; then for the page with room COMP_BUSY (the
+   page), COMP_JOURNAL_FULL (the page) and COMP_OUT_OF_MEMORY, after which that page may be built, and no object is
+   made. A count above 65,535 is taken as 65,535, which is too large as well. */
 comp_answer comp_alloc(comp_handle *mutator, uint32_t refs, uint32_t weak, uint32_t data_words, uint32_t tag);
 
 /* Builds a page if nobody has. Answers 1 if this call built it, else 0. To sweep is to touch each page below

@@ -18,7 +18,7 @@ ghost use Rattle.comp_handle.specs.declared.ending.Question.TheVariants as quest
 use comp_handle::{Answer, Call, Handle, Question, Written};
 use std::alloc::Global;
 
-/// Makes a marked heap of this edition, 1 to 3.
+/// Makes a marked heap of this edition, 1 to 4.
 #[unsafe(no_mangle)]
 pub extern "C" fn comp_heap(
     alloc: Global,
@@ -33,7 +33,7 @@ pub extern "C" fn comp_heap(
     comp_handle::put_heap(alloc, out, edition, words, marks, roots)
 }
 
-/// Makes a heap of this edition, 1 to 3, in which exactly the objects are marked that its roots reach.
+/// Makes a heap of this edition, 1 to 4, in which exactly the objects are marked that its roots reach.
 #[unsafe(no_mangle)]
 pub extern "C" fn comp_mark(
     alloc: Global,

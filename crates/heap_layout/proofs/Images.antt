@@ -4,7 +4,7 @@ use Rattle.std.specs.Io.KnownBytes.{Consumes}
 use Rattle.std.specs.List.{flat_map}
 use Rattle.std.proofs.KnownBytes.{Consumes-trans}
 use Rattle.heap_layout.specs.declared.edition.Edition.{Edition}
-use Rattle.heap_layout.specs.declared.edition.Edition.TheVariants.{One, Two, Three}
+use Rattle.heap_layout.specs.declared.edition.Edition.TheVariants.{One, Two, Three, Four}
 use Rattle.heap_layout.specs.Heap.{Heap, IsStored}
 use Rattle.heap_layout.specs.Faults.{faults, IsFirst, IsAnswered, IsRefusedMemory}
 use Rattle.heap_layout.specs.Encoding.{four_bytes, eight_bytes, preamble, counts, head, encoding, body_len, AreWithin, RefusesBy, RefusesCounts, RefusesParts, RefusesEnd, EndsBefore}
@@ -103,6 +103,7 @@ pub refused_memory : (edition : Edition) (list : List LayoutFault) (fault : Layo
 refused_memory One list fault memory = absurd memory
 refused_memory Two list fault memory = absurd memory
 refused_memory Three list fault memory = memory.0
+refused_memory Four list fault memory = memory.0
 
 -- the image of a heap within the limits is refused for the first fault of the heap, or for want of memory
 refused_heap : (large : Bool) (heap : Heap) (fault : LayoutFault) → IsRead large heap.edition → IsStored heap

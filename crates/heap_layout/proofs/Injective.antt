@@ -6,7 +6,7 @@ use Rattle.std.proofs.lemmas.List.{take_at, drop_at, append_cancel_left, append-
 use Rattle.std.proofs.lemmas.List.Elements.{All-head, All-tail}
 use Rattle.std.proofs.lemmas.Nat.{from_le_bytes-to_le_bytes_4, from_le_bytes-to_le_bytes_8}
 use Rattle.heap_layout.specs.declared.edition.Edition.{Edition}
-use Rattle.heap_layout.specs.declared.edition.Edition.TheVariants.{One, Two, Three}
+use Rattle.heap_layout.specs.declared.edition.Edition.TheVariants.{One, Two, Three, Four}
 use Rattle.heap_layout.specs.Heap.{Heap, IsStored}
 use Rattle.heap_layout.specs.Versions.{version_of}
 use Rattle.heap_layout.specs.Encoding.{four_bytes, eight_bytes, magic, version, counts, head, encoding, body_len, AreCounted}
@@ -90,11 +90,19 @@ edition_same Two Three same = absurd (omega (arith, same))
 edition_same Three One same = absurd (omega (arith, same))
 edition_same Three Two same = absurd (omega (arith, same))
 edition_same Three Three same = refl
+edition_same One Four same = absurd (omega (arith, same))
+edition_same Two Four same = absurd (omega (arith, same))
+edition_same Three Four same = absurd (omega (arith, same))
+edition_same Four One same = absurd (omega (arith, same))
+edition_same Four Two same = absurd (omega (arith, same))
+edition_same Four Three same = absurd (omega (arith, same))
+edition_same Four Four same = refl
 
 small_version : (edition : Edition) → version_of edition < 2 ^ 32
 small_version One = omega arith
 small_version Two = omega arith
 small_version Three = omega arith
+small_version Four = omega arith
 
 -- versions with the same bytes belong to the same edition
 pub version_same : (one other : Edition) (x y : List ℕ) → version one ++ x ≡ version other ++ y → (one ≡ other) × (x ≡ y)

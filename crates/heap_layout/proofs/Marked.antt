@@ -12,7 +12,7 @@ use Rattle.heap_layout.specs.declared.kind.Kind.TheVariants.{Header, Reference, 
 use Rattle.heap_layout.specs.Limits.{most_words, most_roots}
 use Rattle.heap_layout.specs.Header.{Head, weak_of, data_of}
 use Rattle.heap_layout.specs.Kinds.{count_of, first_of}
-use Rattle.heap_layout.specs.Heap.{Heap, header_at, object_at, fields_of, objects, words_of, starts, is_start, is_target, IsTarget, IsPlaced, IsClosed}
+use Rattle.heap_layout.specs.Heap.{Heap, header_at, object_at, fields_of, objects, words_of, starts, is_start, is_value, IsPlaced, IsClosed}
 use Rattle.heap_layout.specs.Faults.{unless, size_faults, object_faults, mark_faults, root_faults, target_faults, weak_faults, part_faults, misled, reference_faults_by, field_faults_by, IsAccepted, IsFirst}
 use Rattle.heap_layout.specs.declared.fault.LayoutFault.{LayoutFault}
 use Rattle.heap_layout.specs.declared.fault.LayoutFault.TheVariants.{BadRoot}
@@ -46,17 +46,17 @@ marks-rising row low (mark ∷ (next ∷ marks)) none (suc k) within =
     let index : suc k + 1 ≡ suc (k + 1) = omega arith in
     rw index (marks-rising row (mark + 1) (next ∷ marks) parts.2 k (omega arith))
 
--- a fault for each numbered reference that is no target
-abbrev pub numbered_faults : (ℕ → LayoutFault) → List ℕ → ℕ → List ℕ → List LayoutFault
-numbered_faults fault marks first references = flat_map (λ reference. unless (is_target marks reference.1) (fault reference.0)) (enumerate_from first references)
+-- a fault for each numbered word that fails the test
+abbrev pub numbered_faults : (ℕ → LayoutFault) → (ℕ → Bool) → ℕ → List ℕ → List LayoutFault
+numbered_faults fault test first references = flat_map (λ reference. unless (test reference.1) (fault reference.0)) (enumerate_from first references)
 
--- references without a fault are targets
-pub numbered-targets : (fault : ℕ → LayoutFault) (marks : List ℕ) (first : ℕ) (references : List ℕ) → numbered_faults fault marks first references ≡ []
-    → All (IsTarget marks) references
-numbered-targets fault marks first [] none = All-nil (IsTarget marks)
-numbered-targets fault marks first (reference ∷ references) none =
-    let parts = append-none (unless (is_target marks reference) (fault first)) (numbered_faults fault marks (first + 1) references) none in
-    All-cons (IsTarget marks) reference references (unless-none _ _ parts.0) (numbered-targets fault marks (first + 1) references parts.1)
+-- words without a fault pass the test
+pub numbered-targets : (fault : ℕ → LayoutFault) (test : ℕ → Bool) (first : ℕ) (references : List ℕ) → numbered_faults fault test first references ≡ []
+    → All (λ word. test word ≡ true) references
+numbered-targets fault test first [] none = All-nil (λ word. test word ≡ true)
+numbered-targets fault test first (reference ∷ references) none =
+    let parts = append-none (unless (test reference) (fault first)) (numbered_faults fault test (first + 1) references) none in
+    All-cons (λ word. test word ≡ true) reference references (unless-none _ _ parts.0) (numbered-targets fault test (first + 1) references parts.1)
 
 -- the fields of a kind are a range of the words
 fields-at : (kind : Kind) (edition : Edition) (words : List ℕ) (i : ℕ) → fields_of kind (object_at edition words i)
@@ -83,16 +83,16 @@ pub weak-none : (words marks : List ℕ) → weak_faults One words marks ≡ []
 weak-none words [] = refl
 weak-none words (mark ∷ marks) = weak-none words marks
 
--- the fields of marked objects without a fault are targets
-pub field-targets : (kind : Kind) (edition : Edition) (words row marks : List ℕ) → field_faults_by kind edition (is_target row) words marks ≡ []
-    → All (λ mark. All (IsTarget row) (fields_of kind (object_at edition words mark))) marks
-field-targets kind edition words row [] none = All-nil (λ mark. All (IsTarget row) (fields_of kind (object_at edition words mark)))
-field-targets kind edition words row (mark ∷ marks) none =
+-- the fields of marked objects without a fault pass the test
+pub field-targets : (kind : Kind) (edition : Edition) (test : ℕ → Bool) (words marks : List ℕ) → field_faults_by kind edition test words marks ≡ []
+    → All (λ mark. All (λ word. test word ≡ true) (fields_of kind (object_at edition words mark))) marks
+field-targets kind edition test words [] none = All-nil (λ mark. All (λ word. test word ≡ true) (fields_of kind (object_at edition words mark)))
+field-targets kind edition test words (mark ∷ marks) none =
     let first = mark + first_of kind (header_at edition words mark) in
     let fields = fields_of kind (object_at edition words mark) in
-    let parts = append-none (reference_faults_by kind (is_target row) first fields) (field_faults_by kind edition (is_target row) words marks) none in
-    All-cons (λ k. All (IsTarget row) (fields_of kind (object_at edition words k))) mark marks
-    (numbered-targets (misled kind) row first fields parts.0) (field-targets kind edition words row marks parts.1)
+    let parts = append-none (reference_faults_by kind test first fields) (field_faults_by kind edition test words marks) none in
+    All-cons (λ k. All (λ word. test word ≡ true) (fields_of kind (object_at edition words k))) mark marks
+    (numbered-targets (misled kind) test first fields parts.0) (field-targets kind edition test words marks parts.1)
 
 -- the first fault of a list is also that of a longer list that begins with it
 pub first-reported : (some more whole : List LayoutFault) (fault : LayoutFault) → some ++ more ≡ whole → IsFirst some fault → IsFirst whole fault
@@ -119,7 +119,7 @@ pub record Passed (heap : Heap) : Type 0 where
   pub sizes : size_faults heap.edition (length heap.words) (length heap.marks) (length heap.roots) ≡ []
   pub row : flat_map (object_faults heap.edition heap.words) (starts heap.edition heap.words) ≡ []
   pub marks : mark_faults (starts heap.edition heap.words) 0 heap.marks ≡ []
-  pub roots : root_faults heap.marks heap.roots ≡ []
+  pub roots : root_faults heap.edition heap.marks heap.roots ≡ []
   pub targets : target_faults heap.edition heap.words heap.marks heap.marks ≡ []
   pub weak : weak_faults heap.edition heap.words heap.marks ≡ []
 
@@ -128,7 +128,7 @@ passed heap accepted =
     let sizes = size_faults heap.edition (length heap.words) (length heap.marks) (length heap.roots) in
     let row = flat_map (object_faults heap.edition heap.words) (starts heap.edition heap.words) in
     let marks = mark_faults (starts heap.edition heap.words) 0 heap.marks in
-    let roots = root_faults heap.marks heap.roots in
+    let roots = root_faults heap.edition heap.marks heap.roots in
     let targets = target_faults heap.edition heap.words heap.marks heap.marks in
     let five = append-none sizes (part_faults heap) accepted in
     let four = append-none (row ++ marks ++ roots ++ targets) (weak_faults heap.edition heap.words heap.marks) five.1 in
@@ -165,9 +165,9 @@ closed heap accepted =
       placed = marks-placed heap.edition heap.words heap.marks parts.row parts.marks;
       apart = λ k within. starts-apart heap.edition (length heap.words) heap.words 0 _ _ (reached-first heap.edition heap.words parts.row) (omega arith) (omega arith)
           (rising k within) (started k 0 (omega arith)) (started (k + 1) 0 within);
-      roots = numbered-targets (λ k. BadRoot k) heap.marks 0 heap.roots parts.roots;
-      references = field-targets Reference heap.edition heap.words heap.marks heap.marks parts.targets;
-      weak = field-targets Weak heap.edition heap.words (starts heap.edition heap.words) heap.marks parts.weak;
+      roots = numbered-targets (λ k. BadRoot k) (is_value heap.edition heap.marks) 0 heap.roots parts.roots;
+      references = field-targets Reference heap.edition (is_value heap.edition heap.marks) heap.words heap.marks parts.targets;
+      weak = field-targets Weak heap.edition (is_value heap.edition (starts heap.edition heap.words)) heap.words heap.marks parts.weak;
     }
 
 -- the words of an accepted heap are those of its objects, object by object

@@ -7,13 +7,13 @@ use Rattle.std.specs.Result.{IsErrAnd}
 use Rattle.heap_layout.specs.Counted.{CountsFailure}
 use Rattle.heap_layout.specs.Encoding.{AreWithin}
 use Rattle.heap_layout.specs.declared.edition.Edition.{Edition}
-use Rattle.heap_layout.specs.declared.edition.Edition.TheVariants.{One, Two, Three}
+use Rattle.heap_layout.specs.declared.edition.Edition.TheVariants.{One, Two, Three, Four}
 use Rattle.heap_layout.specs.declared.kind.Kind.{Kind}
 use Rattle.heap_layout.specs.declared.kind.Kind.TheVariants.{Header, Reference, Weak, Data}
 use Rattle.heap_layout.specs.Limits.{most_words, most_roots, most_object_words}
 use Rattle.heap_layout.specs.Header.{size_of}
 use Rattle.heap_layout.specs.Kinds.{first_of}
-use Rattle.heap_layout.specs.Heap.{Heap, starts, is_start, is_target, header_at, object_at, fields_of}
+use Rattle.heap_layout.specs.Heap.{Heap, starts, is_start, is_value, header_at, object_at, fields_of}
 use Rattle.heap_layout.specs.Faults.{unless, size_faults, object_faults, mark_faults, root_faults, misled, reference_faults_by, field_faults_by, target_faults, weak_faults, part_faults, faults, IsFirst, IsAnswered, IsRefusedMemory, ReportsOf}
 use Rattle.heap_layout.specs.declared.fault.LayoutFault.{LayoutFault}
 use Rattle.heap_layout.specs.declared.fault.LayoutFault.TheVariants.{TooLarge, ObjectPastEnd, ObjectTooLong, MarkNotStart, MarksNotRising, BadRoot, UnmarkedTarget, BadWeak, OutOfMemory, Device}
@@ -58,8 +58,8 @@ marks_of_part row low (mark ∷ marks) =
     (both_of_part (leb low mark) (is_start row mark) (MarksNotRising mark) (MarkNotStart mark) tt tt)
     (marks_of_part row (mark + 1) marks)
 
-roots_of_part : (marks roots : List ℕ) → All IsOfPart (root_faults marks roots)
-roots_of_part marks roots = each_of_part _ (λ root. unless_of_part _ (BadRoot root.0) tt) (enumerate_from 0 roots)
+roots_of_part : (edition : Edition) (marks roots : List ℕ) → All IsOfPart (root_faults edition marks roots)
+roots_of_part edition marks roots = each_of_part _ (λ root. unless_of_part _ (BadRoot root.0) tt) (enumerate_from 0 roots)
 
 misled_of_part : (kind : Kind) (i : ℕ) → IsOfPart (misled kind i)
 misled_of_part Header i = tt
@@ -99,21 +99,21 @@ parts_of_part : (heap : Heap) → All IsOfPart (part_faults heap)
 parts_of_part heap =
     let row = flat_map (object_faults heap.edition heap.words) (starts heap.edition heap.words) in
     let marks = mark_faults (starts heap.edition heap.words) 0 heap.marks in
-    let roots = root_faults heap.marks heap.roots in
+    let roots = root_faults heap.edition heap.marks heap.roots in
     let targets = target_faults heap.edition heap.words heap.marks heap.marks in
     let weak = weak_faults heap.edition heap.words heap.marks in
     all_five IsOfPart row marks roots targets weak
     (each_of_part (object_faults heap.edition heap.words) (objects_of_part heap.edition heap.words) (starts heap.edition heap.words))
     (marks_of_part (starts heap.edition heap.words) 0 heap.marks)
-    (roots_of_part heap.marks heap.roots)
-    (fields_of_part Reference heap.edition (is_target heap.marks) heap.words heap.marks)
-    (fields_of_part Weak heap.edition (is_target (starts heap.edition heap.words)) heap.words heap.marks)
+    (roots_of_part heap.edition heap.marks heap.roots)
+    (fields_of_part Reference heap.edition (is_value heap.edition heap.marks) heap.words heap.marks)
+    (fields_of_part Weak heap.edition (is_value heap.edition (starts heap.edition heap.words)) heap.words heap.marks)
 
 -- none of the faults of parts is that of the sizes
 pub parts_not_too_large : (heap : Heap) → IsFirst (part_faults heap) TooLarge → ⊥
 parts_not_too_large heap first = first_all IsOfPart (part_faults heap) TooLarge (parts_of_part heap) first
 
--- a refusal of memory is an answer of the checks of edition three after that of the sizes
+-- a refusal of memory is an answer of the checks of editions three and four after that of the sizes
 pub memory_reported : {T : Type 0} (heap : Heap) (r : Result T LayoutFault) → IsErrAnd r (λ fault. fault ≡ OutOfMemory) → ReportsOf Three (part_faults heap) r
 memory_reported heap (Ok x) is = absurd is
 memory_reported heap (Err fault) is = inr (is, parts_not_too_large heap)
@@ -138,6 +138,7 @@ memory_no_device : (edition : Edition) (list : List LayoutFault) (fault : Layout
 memory_no_device One list fault memory = absurd memory
 memory_no_device Two list fault memory = absurd memory
 memory_no_device Three list fault memory = subst IsNoDevice (sym memory.0) tt
+memory_no_device Four list fault memory = subst IsNoDevice (sym memory.0) tt
 
 -- the answer for a heap within the limits is no failure of the device
 pub no_device : (heap : Heap) (fault : LayoutFault) → AreWithin heap.edition (length heap.words) (length heap.marks) (length heap.roots)

@@ -1,6 +1,6 @@
 -- The bytes of a heap image. All numbers are little-endian; nothing is padded.
 --     magic      8 bytes, `COMPHEAP`
---     version    4 bytes: 1 in edition one, 2 in edition two, 3 in edition three
+--     version    4 bytes: 1 in edition one, 2 in edition two, 3 in edition three, 4 in edition four
 --     counts     4 bytes each: words, marks, roots
 --     words      8 bytes each, index 0 first
 --     marks      4 bytes each

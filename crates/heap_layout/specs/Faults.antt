@@ -6,9 +6,9 @@ use Rattle.heap_layout.specs.Limits.{most_words, most_roots, most_object_words}
 use Rattle.heap_layout.specs.Header.{size_of}
 use Rattle.heap_layout.specs.Bits.{bit}
 use Rattle.heap_layout.specs.Kinds.{first_of}
-use Rattle.heap_layout.specs.Heap.{Heap, header_at, object_at, fields_of, starts, starts_at, is_start, is_target}
+use Rattle.heap_layout.specs.Heap.{Heap, header_at, object_at, fields_of, starts, starts_at, is_start, is_value}
 use Rattle.heap_layout.specs.declared.edition.Edition.{Edition}
-use Rattle.heap_layout.specs.declared.edition.Edition.TheVariants.{One, Two, Three}
+use Rattle.heap_layout.specs.declared.edition.Edition.TheVariants.{One, Two, Three, Four}
 use Rattle.heap_layout.specs.declared.kind.Kind.{Kind}
 use Rattle.heap_layout.specs.declared.kind.Kind.TheVariants.{Reference, Weak}
 use Rattle.heap_layout.specs.declared.fault.LayoutFault.{LayoutFault}
@@ -69,24 +69,26 @@ abbrev pub field_faults_by : Kind → Edition → (ℕ → Bool) → List ℕ �
 field_faults_by kind edition test words marks =
     flat_map (λ mark. reference_faults_by kind test (mark + first_of kind (header_at edition words mark)) (fields_of kind (object_at edition words mark))) marks
 
--- a fault for each root that is neither null nor the address of a marked object
-abbrev pub root_faults : List ℕ → List ℕ → List LayoutFault
-root_faults marks roots = root_faults_by (is_target marks) roots
+-- a fault for each root that is neither null nor the address of a marked object, nor an immediate of the edition
+abbrev pub root_faults : Edition → List ℕ → List ℕ → List LayoutFault
+root_faults edition marks roots = root_faults_by (is_value edition marks) roots
 
--- a fault for each reference of these marked objects that is neither null nor the address of a marked object
+-- a fault for each reference of these marked objects that is neither null nor the address of a marked object, nor an
+-- immediate of the edition
 abbrev pub target_faults : Edition → List ℕ → List ℕ → List ℕ → List LayoutFault
-target_faults edition words all_marks marks = field_faults_by Reference edition (is_target all_marks) words marks
+target_faults edition words all_marks marks = field_faults_by Reference edition (is_value edition all_marks) words marks
 
--- a fault for each weak word of a marked object that is neither null nor the address of an object
+-- a fault for each weak word of a marked object that is neither null nor the address of an object, nor an immediate of
+-- the edition
 abbrev pub weak_faults : Edition → List ℕ → List ℕ → List LayoutFault
-weak_faults edition words marks = field_faults_by Weak edition (is_target (starts edition words)) words marks
+weak_faults edition words marks = field_faults_by Weak edition (is_value edition (starts edition words)) words marks
 
 -- the faults of the objects, the marks, the roots, the references and the weak words
 abbrev pub part_faults : Heap → List LayoutFault
 part_faults heap =
     flat_map (object_faults heap.edition heap.words) (starts heap.edition heap.words)
     ++ mark_faults (starts heap.edition heap.words) 0 heap.marks
-    ++ root_faults heap.marks heap.roots
+    ++ root_faults heap.edition heap.marks heap.roots
     ++ target_faults heap.edition heap.words heap.marks heap.marks
     ++ weak_faults heap.edition heap.words heap.marks
 
@@ -101,11 +103,12 @@ abbrev pub IsFirst : {F : Type 0} → List F → F → Type 0
 IsFirst [] fault = ⊥
 IsFirst (first ∷ others) fault = fault ≡ first
 
--- an allocation was refused: only the checks of edition three make one, and only after that of the sizes
+-- an allocation was refused: only the checks of editions three and four make one, and only after that of the sizes
 abbrev pub IsRefusedMemory : Edition → List LayoutFault → LayoutFault → Type 0
 IsRefusedMemory One list fault = ⊥
 IsRefusedMemory Two list fault = ⊥
 IsRefusedMemory Three list fault = (fault ≡ OutOfMemory) × (IsFirst list TooLarge → ⊥)
+IsRefusedMemory Four list fault = (fault ≡ OutOfMemory) × (IsFirst list TooLarge → ⊥)
 
 -- the fault that is answered for a heap of this edition with this list of faults
 abbrev pub IsAnswered : Edition → List LayoutFault → LayoutFault → Type 0

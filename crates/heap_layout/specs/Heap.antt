@@ -5,6 +5,7 @@ use Rattle.std.specs.List.{list_any}
 use Rattle.heap_layout.specs.declared.edition.Edition.{Edition}
 use Rattle.heap_layout.specs.declared.kind.Kind.{Kind}
 use Rattle.heap_layout.specs.declared.kind.Kind.TheVariants.{Header, Reference, Weak, Data}
+use Rattle.heap_layout.specs.Values.{or_immediate}
 use Rattle.heap_layout.specs.Limits.{most_words, most_roots, most_object_words}
 use Rattle.heap_layout.specs.Header.{Head, header_of, refs_of, weak_of, data_of, size_of}
 
@@ -86,6 +87,14 @@ is_target marks reference = (reference == 0) || list_any (λ mark. from_address 
 abbrev pub IsTarget : List ℕ → ℕ → Type 0
 IsTarget marks reference = is_target marks reference ≡ true
 
+-- whether a root, a reference or a weak word of a heap of this edition is an immediate, null, or the address of one of
+-- the objects that start at these indices
+abbrev pub is_value : Edition → List ℕ → ℕ → Bool
+is_value edition marks = or_immediate edition (is_target marks)
+
+abbrev pub IsValue : Edition → List ℕ → ℕ → Type 0
+IsValue edition marks word = is_value edition marks word ≡ true
+
 -- the object at index i ends within the words, and is no longer than an object of the edition may be
 pub record IsPlaced (edition : Edition) (words : List ℕ) (i : ℕ) : Type 0 where
   pub within : i + size_of (header_at edition words i) ≤ length words
@@ -99,7 +108,7 @@ pub record IsStored (heap : Heap) : Type 0 where
 
 -- What acceptance means. The marked objects are objects of the row and do not overlap. Every root and every reference
 -- of a marked object is null or the address of a marked object. Every weak word of a marked object is null or the
--- address of an object.
+-- address of an object. In edition four each of them may also be an immediate.
 pub record IsClosed (heap : Heap) : Type 0 where
   pub few_words : length heap.words ≤ most_words heap.edition
   pub few_marks : length heap.marks ≤ most_words heap.edition
@@ -108,6 +117,6 @@ pub record IsClosed (heap : Heap) : Type 0 where
   pub placed : All (IsPlaced heap.edition heap.words) heap.marks
   pub apart : (k : ℕ) → k + 1 < length heap.marks
       → slice_index heap.marks k + size_of (header_at heap.edition heap.words (slice_index heap.marks k)) ≤ slice_index heap.marks (k + 1)
-  pub roots : All (IsTarget heap.marks) heap.roots
-  pub references : All (λ mark. All (IsTarget heap.marks) (object_at heap.edition heap.words mark).references) heap.marks
-  pub weak : All (λ mark. All (IsTarget (starts heap.edition heap.words)) (object_at heap.edition heap.words mark).weak) heap.marks
+  pub roots : All (IsValue heap.edition heap.marks) heap.roots
+  pub references : All (λ mark. All (IsValue heap.edition heap.marks) (object_at heap.edition heap.words mark).references) heap.marks
+  pub weak : All (λ mark. All (IsValue heap.edition (starts heap.edition heap.words)) (object_at heap.edition heap.words mark).weak) heap.marks

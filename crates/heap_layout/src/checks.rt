@@ -1,10 +1,11 @@
-//! The checks that a heap passes before it is accepted, in the order in which their faults count. Only in edition three
-//! they allocate.
+//! The checks that a heap passes before it is accepted, in the order in which their faults count. Only in editions three
+//! and four they allocate.
 ghost use Rattle.std.specs.Prelude.{◌≡◌, ℕ, ◌+◌, ◌*◌, ◌^◌, ◌<◌, ◌≤◌, ◌==◌, ◌&&◌, ◌++◌, nat_lt, false, [], All, length, slice_index, IfOk};
 ghost use Rattle.std.specs.List.{flat_map};
 ghost use Rattle.heap_layout.specs.declared.edition.Edition.TheVariants.{Three};
 ghost use Rattle.heap_layout.specs.Heap.{starts, is_start, is_target, IsPlaced};
 ghost use Rattle.heap_layout.specs.Bits.{bit, leads};
+ghost use Rattle.heap_layout.specs.Values.{or_immediate};
 ghost use Rattle.heap_layout.specs.Faults.{IsReached, Meets, size_faults, object_faults, mark_faults, root_faults_by, misled, reference_faults_by, field_faults_by, weak_faults, part_faults, faults, Reports, ReportsOf};
 
 use crate::bits::set_if;
@@ -13,14 +14,14 @@ use crate::fault::LayoutFault;
 use crate::header::Header;
 use crate::kind::Kind;
 use crate::limits::MAX_WORDS;
-use crate::targets::{has, put_marks, put_row};
+use crate::targets::{holds, put_marks, put_row};
 use std::alloc::Global;
 
 // The number of blocks of 64 bits that have one bit for each word of the largest heap of edition one or two.
 const BLOCKS: usize = MAX_WORDS / 64;
 
-/// Checks a heap made of these parts: Ok if it is accepted, otherwise Err with its first fault. In edition three it
-/// allocates a bit for each word, and `OutOfMemory` may replace any other answer but `TooLarge`.
+/// Checks a heap made of these parts: Ok if it is accepted, otherwise Err with its first fault. In editions three and
+/// four it allocates a bit for each word, and `OutOfMemory` may replace any other answer but `TooLarge`.
 pub fn check(
     alloc: Global,
     edition: Edition,
@@ -33,7 +34,7 @@ pub fn check(
     check_sizes(edition, words.len(), marks.len(), roots.len())?;
     match edition {
         Edition::One | Edition::Two => check_small(edition, words, marks, roots),
-        Edition::Three => check_large(alloc, edition, words, marks, roots),
+        Edition::Three | Edition::Four => check_large(alloc, edition, words, marks, roots),
     }
 }
 
@@ -91,7 +92,7 @@ fn check_parts(
     ensures { Reports (part_faults (record { edition = edition; words = words.now; marks = marks.now; roots = roots.now })) result }
 {
     check_objects(bits, edition, words, marks)?;
-    check_roots(bits, roots)?;
+    check_roots(bits, edition, roots)?;
     check_fields(bits, Kind::Reference, edition, words, marks)?;
     check_weak(bits, edition, words, marks)
 }
@@ -213,22 +214,22 @@ fn next_start(edition: Edition, words: &[u64], mut start: usize, low: usize) -> 
     start
 }
 
-// Checks that each root is null or the address of a marked object.
-fn check_roots(bits: &[u64], roots: &[u64]) -> Result<(), LayoutFault>
+// Checks that each root is null, the address of a marked object, or an immediate.
+fn check_roots(bits: &[u64], edition: Edition, roots: &[u64]) -> Result<(), LayoutFault>
     requires some { 0 < length bits.now }
     requires fits { length bits.now ≤ 2 ^ 26 }
-    ensures { Reports (root_faults_by (leads bits.now) roots.now) result }
+    ensures { Reports (root_faults_by (or_immediate edition (leads bits.now)) roots.now) result }
 {
     for (number, &root) in roots.iter().enumerate() {
-        if !has(bits, root) {
+        if !holds(bits, edition, root) {
             return Err(LayoutFault::BadRoot(number as u64));
         }
     }
     Ok(())
 }
 
-// Checks that each weak word of each marked object is null or the address of an object, marked or not. Of a row with
-// weak words the bits are then those of all objects.
+// Checks that each weak word of each marked object is null, the address of an object, marked or not, or an immediate. Of
+// a row with weak words the bits are then those of all objects.
 fn check_weak(
     bits: &mut [u64],
     edition: Edition,
@@ -245,14 +246,14 @@ fn check_weak(
 {
     match edition {
         Edition::One => Ok(()),
-        Edition::Two | Edition::Three => {
+        Edition::Two | Edition::Three | Edition::Four => {
             put_row(bits, edition, words);
             check_fields(bits, Kind::Weak, edition, words, marks)
         }
     }
 }
 
-// Checks that each field of this kind of each marked object is null or leads to one of the targets.
+// Checks that each field of this kind of each marked object is null, leads to one of the targets, or is an immediate.
 #[inline(always)]
 fn check_fields(
     bits: &[u64],
@@ -265,39 +266,47 @@ fn check_fields(
     requires some { 0 < length bits.now }
     requires fits { length bits.now ≤ 2 ^ 26 }
     requires placed { All (IsPlaced edition words.now) marks.now }
-    ensures { Reports (field_faults_by kind edition (leads bits.now) words.now marks.now) result }
+    ensures { Reports (field_faults_by kind edition (or_immediate edition (leads bits.now)) words.now marks.now) result }
 {
     for &mark in marks {
         let header = Header::from_word_of(edition, words[mark as usize]);
         let first = mark as usize + header.first(kind) as usize;
         let count = header.count(kind) as usize;
-        check_references(bits, kind, first as u64, &words[first..first + count])?;
+        check_references(
+            bits,
+            kind,
+            edition,
+            first as u64,
+            &words[first..first + count],
+        )?;
     }
     Ok(())
 }
 
-// Checks that each of these words is null or leads to one of the targets. They are of one kind; the first has index
-// `first`.
+// Checks that each of these words is null, leads to one of the targets, or is an immediate. They are of one kind; the
+// first has index `first`.
 fn check_references(
     bits: &[u64],
     kind: Kind,
+    edition: Edition,
     first: u64,
     references: &[u64],
 ) -> Result<(), LayoutFault>
     requires some { 0 < length bits.now }
     requires fits { length bits.now ≤ 2 ^ 26 }
     requires few { first + length references.now ≤ 2 ^ 32 }
-    ensures { Reports (reference_faults_by kind (leads bits.now) first references.now) result }
+    ensures { Reports (reference_faults_by kind (or_immediate edition (leads bits.now)) first references.now) result }
 {
     for (i, &reference) in references.iter().enumerate() {
-        if !has(bits, reference) {
+        if !holds(bits, edition, reference) {
             return Err(misled(kind, first + i as u64));
         }
     }
     Ok(())
 }
 
-// The fault of a word of this kind, at index `i`, that is neither null nor leads to one of its targets.
+// The fault of a word of this kind, at index `i`, that is neither null nor an immediate, and leads to none of its
+// targets.
 fn misled(kind: Kind, i: u64) -> LayoutFault
     ensures { result ≡ misled kind i }
 {

@@ -5,9 +5,9 @@ ghost use Rattle.heap_layout.specs.Counted.{inner_of, failures_of, is_flushed_of
 
 use std::io::{Error, ErrorKind, Read, Result, Write};
 
-/// A reader or writer that counts its failed calls. A call fails if it answers an error. A write also fails if it takes
-/// no byte of a part that is not empty. For a writer it also records whether all bytes that were taken have been
-/// flushed since.
+/// A reader or writer that counts the calls through it that failed. A call fails if it answers an error. A write also
+/// fails if it takes no byte of a part that is not empty. For a writer it also records whether all bytes that were taken
+/// through it have been flushed since.
 #[derive(Debug, Drop)]
 pub struct Counted<R> {
     inner: R,
@@ -17,7 +17,8 @@ pub struct Counted<R> {
 }
 
 impl<R> Counted<R> {
-    /// Wraps a reader or writer. No call has failed yet, and nothing is left to flush.
+    /// Wraps a reader or writer. No call through this has failed yet, and no byte was taken through it that is left to
+    /// flush. Of what the writer took before nothing is said.
     pub fn new(inner: R) -> Counted<R>
         ensures inner { inner_of result ≡ inner }
         ensures none { failures_of result ≡ 0 }

@@ -36,10 +36,12 @@ pub enum LayoutFault {
     /// This mark is not above the mark before it.
     #[error("H5 MarksNotRising({0})")]
     MarksNotRising(u64),
-    /// The root with this number is neither null nor the address of a marked object.
+    /// The root with this number is neither null nor the address of a marked object, nor an immediate of edition
+    /// four.
     #[error("H6 BadRoot({0})")]
     BadRoot(u64),
-    /// The word at this index is a reference of a marked object, but neither null nor the address of a marked object.
+    /// The word at this index is a reference of a marked object, but neither null nor the address of a marked object,
+    /// nor an immediate of edition four.
     #[error("H7 UnmarkedTarget({0})")]
     UnmarkedTarget(u64),
     /// The image ends early.
@@ -58,7 +60,7 @@ pub enum LayoutFault {
     #[error("H12 Device")]
     Device,
     /// The word at this index is a weak word of a marked object, but neither null nor the address of an object, marked
-    /// or not.
+    /// or not, nor an immediate of edition four.
     #[error("H13 BadWeak({0})")]
     BadWeak(u64),
 }

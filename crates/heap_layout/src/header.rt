@@ -1,5 +1,6 @@
 ghost use Rattle.std.specs.Prelude.{◌≡◌, ℕ, ◌+◌, ◌/◌, ◌%◌, ◌^◌, ◌<◌, ◌≤◌, IfNone, IfSome};
 ghost use Rattle.heap_layout.specs.declared.edition.Edition.TheVariants.{One, Two, Three};
+ghost use Rattle.heap_layout.specs.declared.header.Form.TheVariants.{Mixed, ManyReferences};
 ghost use Rattle.heap_layout.specs.Header.{refs_of, weak_of, data_of, tag_of, size_of, header_of, header_with, header_word, weak_header_word, form_of, many_in, few_in, Says};
 ghost use Rattle.heap_layout.specs.Kinds.{count_of, first_of};
 
@@ -23,7 +24,7 @@ pub struct Header {
     word: u64,
 }
 
-/// The form of a header of edition three: of which fields there may be many.
+/// The form of a header of edition three or four: of which fields there may be many.
 #[derive(Clone, Copy, Debug, PartialEq, Eq)]
 pub enum Form {
     /// Fewer than 2^16 fields of each kind.
@@ -36,7 +37,7 @@ pub enum Form {
     ManyWeak,
 }
 
-// The form of a header word of edition three.
+// The form of a header word of edition three or four.
 fn form_of(word: u64) -> Form
     ensures { result ≡ form_of word }
 {
@@ -48,7 +49,7 @@ fn form_of(word: u64) -> Form
     }
 }
 
-// Of a header word of edition three that is not mixed, the number of the fields of which there may be many.
+// Of a header word of edition three or four that is not mixed, the number of the fields of which there may be many.
 fn many_in(word: u64) -> u32
     ensures value { result ≡ many_in word }
     ensures small { result < 2 ^ 31 }
@@ -56,7 +57,7 @@ fn many_in(word: u64) -> u32
     (word & 0x7fff_ffff) as u32
 }
 
-// Of a header word of edition three that is not mixed, the number of the other fields.
+// Of a header word of edition three or four that is not mixed, the number of the other fields.
 fn few_in(word: u64) -> u32
     ensures value { result ≡ few_in word }
     ensures small { result < 2 ^ 17 }
@@ -132,7 +133,7 @@ impl Header {
 
     /// The header of an object with `refs` references, `weak` weak words and `data_words` data words, and with this
     /// tag. None if the edition has no header for these: edition one has no weak words, edition two no tag of 2^16 or
-    /// more, edition three no tag of 2^14 or more.
+    /// more, editions three and four no tag of 2^14 or more.
     pub fn of_counts(
         edition: Edition,
         refs: u16,
@@ -151,6 +152,10 @@ impl Header {
             Edition::Three if tag < 16_384 => {
                 Some(Header::new_mixed(refs, weak, data_words, tag as u16))
             }
+            Edition::Four if tag < 16_384 => Some(Header::from_word_of(
+                Edition::Four,
+                Header::new_mixed(refs, weak, data_words, tag as u16).word,
+            )),
             _ => None,
         }
     }
@@ -162,6 +167,9 @@ impl Header {
     /// counts are below 2^16, and that of many references before that of many data words.
     pub fn of_large_counts(refs: u32, weak: u32, data_words: u32, tag: u32) -> Option<Header>
         ensures says { IfSome result (λ header. Says header refs weak data_words tag) }
+        ensures mixed { IfSome result (λ header. refs < 2 ^ 16 → weak < 2 ^ 16 → data_words < 2 ^ 16 → form_of header.word ≡ Mixed) }
+        ensures many_references { IfSome result (λ header. (refs < 2 ^ 16 → weak < 2 ^ 16 → data_words < 2 ^ 16 → ⊥) → weak ≡ 0 → data_words < 2 ^ 17
+            → form_of header.word ≡ ManyReferences) }
         ensures none { IfNone result ((word : ℕ) → Says (header_of Three word) refs weak data_words tag → ⊥) }
     {
         if tag >= 16_384 {
@@ -209,7 +217,7 @@ impl Header {
     {
         match self.edition {
             Edition::One | Edition::Two => (self.word & 0xffff) as u32,
-            Edition::Three => match form_of(self.word) {
+            Edition::Three | Edition::Four => match form_of(self.word) {
                 Form::Mixed => (self.word & 0xffff) as u32,
                 Form::ManyReferences => many_in(self.word),
                 Form::ManyData => few_in(self.word),
@@ -225,7 +233,7 @@ impl Header {
         match self.edition {
             Edition::One => 0,
             Edition::Two => ((self.word >> 32) & 0xffff) as u32,
-            Edition::Three => match form_of(self.word) {
+            Edition::Three | Edition::Four => match form_of(self.word) {
                 Form::Mixed => ((self.word >> 32) & 0xffff) as u32,
                 Form::ManyReferences | Form::ManyData => 0,
                 Form::ManyWeak => many_in(self.word),
@@ -239,7 +247,7 @@ impl Header {
     {
         match self.edition {
             Edition::One | Edition::Two => ((self.word >> 16) & 0xffff) as u32,
-            Edition::Three => match form_of(self.word) {
+            Edition::Three | Edition::Four => match form_of(self.word) {
                 Form::Mixed => ((self.word >> 16) & 0xffff) as u32,
                 Form::ManyReferences | Form::ManyWeak => few_in(self.word),
                 Form::ManyData => many_in(self.word),
@@ -247,14 +255,14 @@ impl Header {
         }
     }
 
-    /// The tag: 32 bits in edition one, 16 bits in edition two, 14 bits in edition three.
+    /// The tag: 32 bits in edition one, 16 bits in edition two, 14 bits in editions three and four.
     pub fn tag(self) -> u32
         ensures { result ≡ tag_of self }
     {
         match self.edition {
             Edition::One => (self.word >> 32) as u32,
             Edition::Two => (self.word >> 48) as u32,
-            Edition::Three => ((self.word >> 48) & 0x3fff) as u32,
+            Edition::Three | Edition::Four => ((self.word >> 48) & 0x3fff) as u32,
         }
     }
 
@@ -284,7 +292,7 @@ impl Header {
     }
 
     /// How many words the object has, with its header: 1 to 131,071 in edition one, 1 to 196,606 in edition two, fewer
-    /// than 2^31 + 2^17 in edition three.
+    /// than 2^31 + 2^17 in editions three and four.
     pub fn size(self) -> u32
         ensures { result ≡ size_of self }
     {

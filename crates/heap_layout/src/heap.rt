@@ -12,8 +12,8 @@ use std::marker::Model;
 
 /// A heap as marking left it: the from-space words, the rising indices of the marked objects, and the roots. The words
 /// are objects side by side, without gaps. Every root, and every reference of a marked object, is null or the address
-/// of a marked object. Every weak word of a marked object is null or the address of an object. From-space word `i` has
-/// the address `2^32 + i`.
+/// of a marked object. Every weak word of a marked object is null or the address of an object. In edition four each of
+/// them may also be an immediate. From-space word `i` has the address `2^32 + i`.
 #[derive(Debug, Drop)]
 pub struct MarkedHeap {
     edition: Edition,
@@ -50,7 +50,7 @@ impl MarkedHeap {
     }
 
     /// Makes a heap of this edition from words, marks and roots. Err with the first fault if the heap is not accepted.
-    /// In editions one and two it does not allocate. In edition three it allocates a bit for each word, and
+    /// In editions one and two it does not allocate. In editions three and four it allocates a bit for each word, and
     /// `OutOfMemory` may replace any other answer but `TooLarge`.
     pub fn from_parts_of(
         edition: Edition,
@@ -72,6 +72,26 @@ impl MarkedHeap {
             marks,
             roots,
         })
+    }
+
+    /// Makes a heap of this edition from words, marks and roots that are known to be accepted. It looks at none of them,
+    /// and does not allocate.
+    pub fn of_accepted(
+        edition: Edition,
+        words: Vec<u64>,
+        marks: Vec<u32>,
+        roots: Vec<u64>,
+    ) -> MarkedHeap
+        requires { IsAccepted (record { edition = edition; words = words.items; marks = marks.items; roots = roots.items }) }
+        ensures made { result ≡ record { edition = edition; words = words.items; marks = marks.items; roots = roots.items } }
+        ensures stored { IsStored result }
+    {
+        MarkedHeap {
+            edition,
+            words,
+            marks,
+            roots,
+        }
     }
 
     /// The layout by which the objects are read.
@@ -107,7 +127,7 @@ impl MarkedHeap {
         &self.marks
     }
 
-    /// The roots. Each is null or the address of a marked object.
+    /// The roots. Each is null or the address of a marked object, or in edition four an immediate.
     pub fn roots(&self) -> &[u64]
         ensures roots { result.now ≡ self.now.roots }
         ensures closed { IsClosed self.now }

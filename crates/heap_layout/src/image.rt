@@ -64,7 +64,7 @@ pub fn read_large_image<R: Read>(
     read_image_by(alloc, r, true)
 }
 
-// Reads an image, of edition three only if `large`.
+// Reads an image, of editions three and four only if `large`.
 fn read_image_by<R: Read>(
     alloc: Global,
     r: &mut Counted<R>,
@@ -96,7 +96,7 @@ pub struct ImageParts {
 }
 
 /// Reads the parts of an image from all bytes that the reader has left, as `read_image` does before the heap is
-/// checked; those of an image of edition three only if `large`.
+/// checked; those of an image of editions three and four only if `large`.
 pub fn read_parts<R: Read>(
     alloc: Global,
     r: &mut Counted<R>,

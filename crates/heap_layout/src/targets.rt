@@ -3,6 +3,7 @@
 ghost use Rattle.std.specs.Prelude.{◌≡◌, ◌≢◌, ℕ, ◌*◌, ◌^◌, ◌<◌, ◌≤◌, false, [], All, length};
 ghost use Rattle.std.specs.List.{flat_map};
 ghost use Rattle.heap_layout.specs.Bits.{bit, leads};
+ghost use Rattle.heap_layout.specs.Values.{or_immediate};
 ghost use Rattle.heap_layout.specs.Heap.{is_target, starts};
 ghost use Rattle.heap_layout.specs.Faults.{object_faults};
 
@@ -48,9 +49,19 @@ pub fn put_row(bits: &mut [u64], edition: Edition, words: &[u64])
     }
 }
 
-/// Whether a word is null or the address of one of the objects. There must be some bits, and no more than for the words
-/// of the largest heap.
-pub fn has(bits: &[u64], reference: u64) -> bool
+/// Whether a root, a reference or a weak word of a heap of this edition is null, the address of one of the objects, or
+/// an immediate. There must be some bits, and no more than for the words of the largest heap.
+pub fn holds(bits: &[u64], edition: Edition, word: u64) -> bool
+    requires some { 0 < length bits.now }
+    requires few { length bits.now ≤ 2 ^ 26 }
+    ensures { result ≡ or_immediate edition (leads bits.now) word }
+{
+    edition.is_immediate(word) | has(bits, word)
+}
+
+// Whether a word is null or the address of one of the objects. There must be some bits, and no more than for the words
+// of the largest heap.
+fn has(bits: &[u64], reference: u64) -> bool
     requires some { 0 < length bits.now }
     requires few { length bits.now ≤ 2 ^ 26 }
     ensures { result ≡ leads bits.now reference }

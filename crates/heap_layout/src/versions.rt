@@ -13,11 +13,12 @@ pub fn version_of(edition: Edition) -> u32
         Edition::One => 1,
         Edition::Two => 2,
         Edition::Three => 3,
+        Edition::Four => 4,
     }
 }
 
-/// The edition that has this version number, if images and dumps of it are read: those of edition three only if
-/// `large`. None if no such edition has it.
+/// The edition that has this version number, if images and dumps of it are read: those of editions three and four only
+/// if `large`. None if no such edition has it.
 pub fn edition_of(version: u32, large: bool) -> Option<Edition>
     ensures found { IfSome result (λ edition. version_of edition ≡ version) }
     ensures read { IfSome result (IsRead large) }
@@ -29,6 +30,8 @@ pub fn edition_of(version: u32, large: bool) -> Option<Edition>
         Some(Edition::Two)
     } else if large && version == version_of(Edition::Three) {
         Some(Edition::Three)
+    } else if large && version == version_of(Edition::Four) {
+        Some(Edition::Four)
     } else {
         None
     }

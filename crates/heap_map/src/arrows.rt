@@ -71,8 +71,8 @@ fn draw_to_root(picture: &mut String, frame: &Frame, address: u64) -> Result<(),
     }
 }
 
-/// Adds an arc for each reference of a marked object that is not null, in from-space, and in to-space if no dump is
-/// drawn.
+/// Adds an arc for each reference of a marked object that leads to an object, in from-space, and in to-space if no dump
+/// is drawn.
 pub fn draw_arcs(
     picture: &mut String,
     frame: &Frame,
@@ -104,6 +104,9 @@ fn draw_reference(
     let Some(target) = reference.checked_sub(FROM_SPACE) else {
         return Ok(());
     };
+    if !frame.from.has(target) {
+        return Ok(());
+    }
     draw_arc(picture, frame.from.corner(index), frame.from.corner(target))?;
     if !slid_too {
         return Ok(());

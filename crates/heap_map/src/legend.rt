@@ -14,6 +14,7 @@ fn name_of(edition: Edition) -> &'static str {
         Edition::One => "one",
         Edition::Two => "two",
         Edition::Three => "three",
+        Edition::Four => "four",
     }
 }
 

@@ -2,23 +2,23 @@
 use Rattle.std.proofs.Common.{◌≡◌, ℕ, zero, suc, ◌<◌, ◌≢◌, ◌⊎◌, cond, List, [], ◌∷◌, length, refl, sym, ap, ◌∙◌, inl, inr, ⊎_elim, arith, eq-eqb, ne_eqb}
 use Rattle.std.proofs.lemmas.Bool.{cases_eq}
 use Rattle.page_plan.specs.Sliding.{to_address}
-use Rattle.comp_cycles.specs.Numbered.{number_at}
-use Rattle.moved_heaps.specs.MovedNumbers.{names_at}
+use Rattle.comp_history.specs.Lists.{look}
+use Rattle.moved_heaps.specs.MovedNumbers.{pairs_at}
 use Rattle.moved_heaps.specs.Ordered.{pair_at}
 
 -- the number at the first place that has an address
-pub named : (row : List (ℕ × ℕ)) (k a : ℕ) → k < length row → to_address (pair_at row k).0 ≡ a → ((i : ℕ) → i < k → to_address (pair_at row i).0 ≡ a → ⊥) → number_at (names_at row) a ≡ (pair_at row k).1
+pub named : (row : List (ℕ × ℕ)) (k a : ℕ) → k < length row → to_address (pair_at row k).0 ≡ a → ((i : ℕ) → i < k → to_address (pair_at row i).0 ≡ a → ⊥) → look 0 (pairs_at row) a ≡ (pair_at row k).1
 named [] k a lt e none = absurd (omega (arith, lt))
-named (x ∷ row) zero a lt e none = ap (λ t. cond t x.1 (number_at (names_at row) a)) (eq-eqb a (to_address x.0) (sym e))
+named (x ∷ row) zero a lt e none = ap (λ t. cond t x.1 (look 0 (pairs_at row) a)) (eq-eqb a (to_address x.0) (sym e))
 named (x ∷ row) (suc k) a lt e none =
-    ap (λ t. cond t x.1 (number_at (names_at row) a)) (ne_eqb a (to_address x.0) (λ q. none 0 (omega arith) (sym q)))
+    ap (λ t. cond t x.1 (look 0 (pairs_at row) a)) (ne_eqb a (to_address x.0) (λ q. none 0 (omega arith) (sym q)))
     ∙ named row k a (omega (arith, lt)) e (λ i l h. none (suc i) (omega (arith, l)) h)
 
 -- an address that no place has gets the number 0
-pub unnamed : (row : List (ℕ × ℕ)) (a : ℕ) → ((i : ℕ) → i < length row → to_address (pair_at row i).0 ≡ a → ⊥) → number_at (names_at row) a ≡ 0
+pub unnamed : (row : List (ℕ × ℕ)) (a : ℕ) → ((i : ℕ) → i < length row → to_address (pair_at row i).0 ≡ a → ⊥) → look 0 (pairs_at row) a ≡ 0
 unnamed [] a none = refl
 unnamed (x ∷ row) a none =
-    ap (λ t. cond t x.1 (number_at (names_at row) a)) (ne_eqb a (to_address x.0) (λ q. none 0 (omega arith) (sym q)))
+    ap (λ t. cond t x.1 (look 0 (pairs_at row) a)) (ne_eqb a (to_address x.0) (λ q. none 0 (omega arith) (sym q)))
     ∙ unnamed row a (λ i l h. none (suc i) (omega (arith, l)) h)
 
 -- the first place with an address

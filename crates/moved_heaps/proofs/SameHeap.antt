@@ -1,5 +1,5 @@
 -- Why a lawful heap is the same heap in object numbers.
-use Rattle.std.proofs.Common.{◌≡◌, ℕ, ◌+◌, ◌<◌, ◌≤◌, ◌≢◌, List, length, get_or, map, zip, refl, sym, ap, subst, ◌∙◌, ⊎_elim, arith, true, false, []}
+use Rattle.std.proofs.Common.{◌≡◌, ℕ, ◌+◌, ◌<◌, ◌≤◌, ◌≢◌, List, length, get_or, map, zip, refl, sym, ap, subst, ◌∙◌, ⊎_elim, arith, Bool, cond, true, false, []}
 use Rattle.std.proofs.Math.Path.{fun_ext}
 use Rattle.std.specs.List.{All, Contains}
 use Rattle.std.specs.List.Sorted.{IsPermutation}
@@ -15,6 +15,9 @@ use Rattle.heap_layout.specs.declared.edition.Edition.{Edition}
 use Rattle.page_plan.specs.Sliding.{to_address}
 use Rattle.page_plan.proofs.Objects.{live-at}
 use Rattle.comp_cycles.proofs.Living.{numbered_reference, numbered_other}
+use Rattle.comp_cycles.proofs.Living as living
+use Rattle.comp_history.specs.Lists.{look}
+use Rattle.heap_layout.specs.Values.{is_immediate}
 use Rattle.comp_cycles.proofs.ObjectWords.{words_by}
 use Rattle.comp_cycles.specs.Numbered.{Names, names_in, number_at, numbered_object, numbered_word, pointers_of, IsNumberedAs}
 use Rattle.comp_cycles.specs.Stable.{StableHeap}
@@ -23,12 +26,13 @@ use Rattle.comp_cycles.proofs.Targets as targets
 use Rattle.moved_heaps.proofs.Finding.{led-marked, led-unmarked}
 use Rattle.moved_heaps.proofs.Objects.{after-led, after-kept, pointers_at}
 use Rattle.moved_heaps.proofs.Ordering.{numbers_differ}
-use Rattle.moved_heaps.specs.Moved.{Moved, IsLawful, led, place, size_at}
-use Rattle.moved_heaps.specs.MovedNumbers.{listed_by, names_at, numbers_in, IsNumberedAt}
+use Rattle.moved_heaps.specs.Moved.{Moved, IsLawful, led, led_value, place, size_at}
+use Rattle.moved_heaps.specs.MovedNumbers.{listed_by, names_at, pairs_at, numbers_in, IsLow, IsNumberedAt}
 use Rattle.moved_heaps.specs.Ordered.{pair_at}
 use Rattle.moved_heaps.proofs.Naming.{named, unnamed, sought, IsFirstAt}
 
-module _ (heap : Heap) (moved : Moved) (numbers : List ℕ) (stable : StableHeap) (closed : IsClosed heap) (lawful : IsLawful heap moved) (is : IsNumberedAs heap numbers stable) where
+module _ (heap : Heap) (moved : Moved) (numbers : List ℕ) (stable : StableHeap) (closed : IsClosed heap) (lawful : IsLawful heap moved) (is : IsNumberedAs heap numbers stable)
+    (far : IsLow moved) where
   abbrev row : List (ℕ × ℕ)
   row = zip moved.places numbers
 
@@ -54,36 +58,57 @@ module _ (heap : Heap) (moved : Moved) (numbers : List ℕ) (stable : StableHeap
       (lawful.apart k l ltk ltl other))
       (cases_eq k l)
 
+  abbrev there_names : Names
+  there_names = names_at moved.edition row
+
+  -- no new address is an immediate
+  low_place : (l : ℕ) → l < length heap.marks → is_immediate moved.edition (to_address (place moved l)) ≡ false
+  low_place l lt = far (to_address (place moved l)) (let inside = lawful.inside l lt in omega (arith, inside))
+
   -- the number at a new place
-  named_place : (l : ℕ) → l < length heap.marks → number_at (names_at row) (to_address (place moved l)) ≡ get_or numbers l 0
-  named_place l lt =
+  look_place : (l : ℕ) → l < length heap.marks → look 0 (pairs_at row) (to_address (place moved l)) ≡ get_or numbers l 0
+  look_place l lt =
       named row l (to_address (place moved l)) (omega (arith, lt, row_long)) (ap (λ (x : ℕ × ℕ). to_address x.0) (pair_is l lt))
       (λ i below e.
       let here = ap (λ (x : ℕ × ℕ). x.0) (pair_is i (omega (arith, below, lt))) in
       let same = one_place i l (omega (arith, below, lt)) lt (omega (arith, e, here)) in omega (arith, below, same))
       ∙ ap (λ (x : ℕ × ℕ). x.1) (pair_is l lt)
 
-  named_null : number_at (names_at row) 0 ≡ 0
-  named_null = unnamed row 0 (λ i lt e. omega (arith, e))
+  named_place : (l : ℕ) → l < length heap.marks → number_at there_names (to_address (place moved l)) ≡ get_or numbers l 0
+  named_place l lt = living.number_is there_names (to_address (place moved l)) (low_place l lt) ∙ look_place l lt
 
-  -- a word, and what it becomes, have one number
-  led_named : (w : ℕ) → number_at (names_at row) (led (live heap) moved.places w) ≡ number_at (names_in heap numbers) w
-  led_named w = ⊎_elim
+  named_null : number_at there_names 0 ≡ 0
+  named_null = living.number_is there_names 0 (far 0 (omega arith)) ∙ unnamed row 0 (λ i lt e. omega (arith, e))
+
+  -- a word that is no immediate, and what it becomes, have one number
+  led_other : (w : ℕ) → is_immediate heap.edition w ≡ false → number_at there_names (led (live heap) moved.places w) ≡ number_at (names_in heap numbers) w
+  led_other w other = ⊎_elim
       (λ (is_one : is_target heap.marks w ≡ true). ⊎_elim
       (λ (null : w ≡ 0).
-      ap (number_at (names_at row)) (led-unmarked heap moved.places w (λ i lt e. omega (arith, e, null))) ∙ named_null
+      ap (number_at there_names) (led-unmarked heap moved.places w (λ i lt e. omega (arith, e, null))) ∙ named_null
       ∙ sym (ap (number_at (names_in heap numbers)) null ∙ targets.named_null heap closed numbers))
       (λ (found : (l : ℕ) × (l < length heap.marks) × (from_address (get_or heap.marks l 0) ≡ w)).
       let (l, lt, at) = found in
-      ap (λ (a : ℕ). number_at (names_at row) (led (live heap) moved.places a)) (sym at)
-      ∙ ap (number_at (names_at row)) (led-marked heap closed moved.places l lt)
+      ap (λ (a : ℕ). number_at there_names (led (live heap) moved.places a)) (sym at)
+      ∙ ap (number_at there_names) (led-marked heap closed moved.places l lt)
       ∙ named_place l lt
       ∙ sym (ap (number_at (names_in heap numbers)) (sym at) ∙ named_mark heap closed numbers l as_many lt))
       (targets.target_cases heap.marks w is_one))
       (λ (is_none : is_target heap.marks w ≡ false).
-      ap (number_at (names_at row)) (led-unmarked heap moved.places w (λ i lt e. both_ways (is_target heap.marks w) is_none (or_right _ _ (targets.target_mark heap.marks w i lt e))))
-      ∙ named_null ∙ sym (targets.named_none heap closed numbers w is_none))
+      ap (number_at there_names) (led-unmarked heap moved.places w (λ i lt e. both_ways (is_target heap.marks w) is_none (or_right _ _ (targets.target_mark heap.marks w i lt e))))
+      ∙ named_null ∙ sym (targets.named_none heap closed numbers w other is_none))
       (cases_Bool (is_target heap.marks w))
+
+  -- a word, and what it becomes, have one number; an immediate stays one
+  led_named : (w : ℕ) → number_at there_names (led_value heap.edition (live heap) moved.places w) ≡ number_at (names_in heap numbers) w
+  led_named w = ⊎_elim
+      (λ (immediate : is_immediate heap.edition w ≡ true).
+      ap (λ (b : Bool). number_at there_names (cond b w (led (live heap) moved.places w))) immediate
+      ∙ living.number_immediate there_names w (ap (λ (e : Edition). is_immediate e w) lawful.head.edition ∙ immediate)
+      ∙ sym (living.number_immediate (names_in heap numbers) w immediate))
+      (λ (other : is_immediate heap.edition w ≡ false).
+      ap (λ (b : Bool). number_at there_names (cond b w (led (live heap) moved.places w))) other ∙ led_other w other)
+      (cases_Bool (is_immediate heap.edition w))
 
   -- ---- the objects
 
@@ -106,36 +131,36 @@ module _ (heap : Heap) (moved : Moved) (numbers : List ℕ) (stable : StableHeap
 
     -- a word of the object, in object numbers
     word_is : (j : ℕ) → j < size_at heap k
-        → numbered_word (names_at row) (pointers_at heap k) j (get_or moved.words (place moved k + j) 0) ≡ numbered_word (names_in heap numbers) (pointers_at heap k) j (get_or heap.words (get_or heap.marks k 0 + j) 0)
+        → numbered_word there_names (pointers_at heap k) j (get_or moved.words (place moved k + j) 0) ≡ numbered_word (names_in heap numbers) (pointers_at heap k) j (get_or heap.words (get_or heap.marks k 0 + j) 0)
     word_is j inside = ⊎_elim
         (λ (first : j < 1). stays (λ low. absurd (omega (arith, first, low))))
         (λ (low : 1 ≤ j). ⊎_elim
         (λ (past : pointers_at heap k < j). stays (λ _. past))
         (λ (within : j ≤ pointers_at heap k).
-        numbered_reference (names_at row) (pointers_at heap k) j (get_or moved.words (place moved k + j) 0) low within
-        ∙ ap (number_at (names_at row)) (lawful.whole k lt j inside ∙ after-led heap closed moved.places k j lt low within)
+        numbered_reference there_names (pointers_at heap k) j (get_or moved.words (place moved k + j) 0) low within
+        ∙ ap (number_at there_names) (lawful.whole k lt j inside ∙ after-led heap closed moved.places k j lt low within)
         ∙ led_named (get_or heap.words (get_or heap.marks k 0 + j) 0)
         ∙ sym (numbered_reference (names_in heap numbers) (pointers_at heap k) j (get_or heap.words (get_or heap.marks k 0 + j) 0) low within))
         (cases_lt (pointers_at heap k) j))
         (cases_lt j 1)
       where
         stays : (1 ≤ j → pointers_at heap k < j)
-            → numbered_word (names_at row) (pointers_at heap k) j (get_or moved.words (place moved k + j) 0) ≡ numbered_word (names_in heap numbers) (pointers_at heap k) j (get_or heap.words (get_or heap.marks k 0 + j) 0)
+            → numbered_word there_names (pointers_at heap k) j (get_or moved.words (place moved k + j) 0) ≡ numbered_word (names_in heap numbers) (pointers_at heap k) j (get_or heap.words (get_or heap.marks k 0 + j) 0)
         stays behind =
-            numbered_other (names_at row) (pointers_at heap k) j (get_or moved.words (place moved k + j) 0) behind
+            numbered_other there_names (pointers_at heap k) j (get_or moved.words (place moved k + j) 0) behind
             ∙ lawful.whole k lt j inside ∙ after-kept heap closed moved.places k j lt behind inside
             ∙ sym (numbered_other (names_in heap numbers) (pointers_at heap k) j (get_or heap.words (get_or heap.marks k 0 + j) 0) behind)
 
     -- the object is the same in object numbers
-    same_object : numbered_object (names_at row) (object_at moved.edition moved.words (place moved k)) ≡ numbered_object (names_in heap numbers) (object_at heap.edition heap.words (get_or heap.marks k 0))
+    same_object : numbered_object there_names (object_at moved.edition moved.words (place moved k)) ≡ numbered_object (names_in heap numbers) (object_at heap.edition heap.words (get_or heap.marks k 0))
     same_object =
-        let there = object_long (names_at row) moved.edition moved.words (place moved k) placed_there in
+        let there = object_long there_names moved.edition moved.words (place moved k) placed_there in
         let here = object_long (names_in heap numbers) heap.edition heap.words (get_or heap.marks k 0) (closed.placed k 0 lt) in
         same_number_lists _ _ (there ∙ size_is ∙ sym here)
         (λ j inside.
         let short : j < size_at heap k = omega (arith, inside, there, size_is) in
-        object_word (names_at row) moved.edition moved.words (place moved k) j placed_there (omega (arith, short, size_is))
-        ∙ ap (λ (h : Head). numbered_word (names_at row) (pointers_of h) j (get_or moved.words (place moved k + j) 0)) header_is
+        object_word there_names moved.edition moved.words (place moved k) j placed_there (omega (arith, short, size_is))
+        ∙ ap (λ (h : Head). numbered_word there_names (pointers_of h) j (get_or moved.words (place moved k + j) 0)) header_is
         ∙ word_is j short
         ∙ sym (object_word (names_in heap numbers) heap.edition heap.words (get_or heap.marks k 0) j (closed.placed k 0 lt) short))
 
@@ -157,10 +182,10 @@ module _ (heap : Heap) (moved : Moved) (numbers : List ℕ) (stable : StableHeap
   at_default : (d : ℕ × ℕ) (k : ℕ) → k < length row → get_or row k d ≡ (place moved k, get_or numbers k 0)
   at_default d k lt = get_or_default row k d (0, 0) lt ∙ pair_is k (omega (arith, lt, row_long))
 
-  all_words : All (HasWords (names_at row)) row
+  all_words : All (HasWords there_names) row
   all_words k d lt =
       let inside : k < length heap.marks = omega (arith, lt, row_long) in
-      subst (HasWords (names_at row)) (sym (at_default d k lt)) (words_given k inside ∙ sym (same_object k inside))
+      subst (HasWords there_names) (sym (at_default d k lt)) (words_given k inside ∙ sym (same_object k inside))
 
   all_given : All IsGiven row
   all_given k d lt = subst IsGiven (sym (at_default d k lt)) (is.given k (omega (arith, lt, row_long, as_many)))
@@ -171,14 +196,14 @@ module _ (heap : Heap) (moved : Moved) (numbers : List ℕ) (stable : StableHeap
   all_once : (i j : ℕ) → i < length row → j < length row → (pair_at row i).1 ≡ (pair_at row j).1 → i ≡ j
   all_once i j lti ltj e = is.once i j (omega (arith, lti, row_long, as_many)) (omega (arith, ltj, row_long, as_many)) (sym (number_is i lti) ∙ e ∙ number_is j ltj)
 
-  all_roots : map (number_at (names_in heap numbers)) heap.roots ≡ map (number_at (names_at row)) moved.roots
+  all_roots : map (number_at (names_in heap numbers)) heap.roots ≡ map (number_at there_names) moved.roots
   all_roots =
       let here = length-map heap.roots (number_at (names_in heap numbers)) in
-      same_number_lists _ _ (here ∙ sym (length-map moved.roots (number_at (names_at row)) ∙ lawful.head.roots))
+      same_number_lists _ _ (here ∙ sym (length-map moved.roots (number_at there_names) ∙ lawful.head.roots))
       (λ i inside.
       let lt : i < length heap.roots = omega (arith, inside, here) in
       get_or-map (number_at (names_in heap numbers)) heap.roots i 0 0 lt
-      ∙ sym (get_or-map (number_at (names_at row)) moved.roots i 0 0 (omega (arith, lt, lawful.head.roots)) ∙ ap (number_at (names_at row)) (lawful.roots i lt) ∙ led_named (get_or heap.roots i 0)))
+      ∙ sym (get_or-map (number_at there_names) moved.roots i 0 0 (omega (arith, lt, lawful.head.roots)) ∙ ap (number_at there_names) (lawful.roots i lt) ∙ led_named (get_or heap.roots i 0)))
 
   all_numbers : numbers ≡ numbers_in row
   all_numbers =
@@ -220,8 +245,8 @@ module _ (heap : Heap) (moved : Moved) (numbers : List ℕ) (stable : StableHeap
         (found.0, found.1, get_or_default others found.0 (0, 0) x found.1 ∙ found.2)
 
     -- both rows have the same number for each address
-    same_names : (a : ℕ) → number_at (names_at others) a ≡ number_at (names_at row) a
-    same_names a = ⊎_elim
+    same_look : (a : ℕ) → look 0 (pairs_at others) a ≡ look 0 (pairs_at row) a
+    same_look a = ⊎_elim
         (λ (found : (k : ℕ) × IsFirstAt others a k).
         let (k, first) = found in
         let (l, lt, same) = met k first.inside in
@@ -229,11 +254,14 @@ module _ (heap : Heap) (moved : Moved) (numbers : List ℕ) (stable : StableHeap
         let at : to_address (place moved l) ≡ a = ap (λ (x : ℕ × ℕ). to_address x.0) (sym (pair_is l inside) ∙ same) ∙ first.here in
         named others k a first.inside first.here first.before
         ∙ ap (λ (x : ℕ × ℕ). x.1) (sym same ∙ pair_is l inside)
-        ∙ sym (ap (number_at (names_at row)) (sym at) ∙ named_place l inside))
+        ∙ sym (ap (look 0 (pairs_at row)) (sym at) ∙ look_place l inside))
         (λ (none : (i : ℕ) → i < length others → to_address (pair_at others i).0 ≡ a → ⊥).
         unnamed others a none
         ∙ sym (unnamed row a (λ i lt e. let (k, inside, same) = met_back i lt in none k inside (ap (λ (x : ℕ × ℕ). to_address x.0) same ∙ e))))
         (sought others a)
+
+    same_names : (a : ℕ) → number_at (names_at moved.edition others) a ≡ number_at there_names a
+    same_names a = ap (λ (n : ℕ). cond (is_immediate moved.edition a) a n) (same_look a)
 
     once_there : (i j : ℕ) → i < length others → j < length others → (pair_at others i).1 ≡ (pair_at others j).1 → i ≡ j
     once_there i j lti ltj e =
@@ -250,7 +278,7 @@ module _ (heap : Heap) (moved : Moved) (numbers : List ℕ) (stable : StableHeap
     in_any_order = record {
       edition = is.edition ∙ sym lawful.head.edition;
       there = refl;
-      words = subst (λ (g : ℕ → ℕ). All (λ (x : ℕ × ℕ). stable.words x.1 ≡ words_by g (object_at moved.edition moved.words x.0)) others) (sym (fun_ext same_names)) (All-permutation (HasWords (names_at row)) row others moves all_words);
+      words = subst (λ (g : ℕ → ℕ). All (λ (x : ℕ × ℕ). stable.words x.1 ≡ words_by g (object_at moved.edition moved.words x.0)) others) (sym (fun_ext same_names)) (All-permutation (HasWords there_names) row others moves all_words);
       roots = is.roots ∙ all_roots ∙ ap (λ (g : ℕ → ℕ). map g moved.roots) (sym (fun_ext same_names));
       given = All-permutation IsGiven row others moves all_given;
       once = once_there;

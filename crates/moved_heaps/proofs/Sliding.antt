@@ -1,5 +1,5 @@
 -- Why sliding is lawful.
-use Rattle.std.proofs.Common.{◌≡◌, ℕ, zero, suc, ◌+◌, ◌-◌, ◌<◌, ◌≤◌, Bool, cond, Option, Some, None, length, get_or, take, refl, sym, ap, ◌∙◌, inl, inr, ⊎_elim, arith, ne_eqb}
+use Rattle.std.proofs.Common.{◌≡◌, ℕ, zero, suc, ◌+◌, ◌-◌, ◌<◌, ◌≤◌, Bool, true, false, cond, Option, Some, None, length, get_or, take, refl, sym, ap, ◌∙◌, inl, inr, ⊎_elim, arith, ne_eqb}
 use Rattle.std.proofs.Math.Path.{fun_ext}
 use Rattle.std.specs.List.{range_with_len}
 use Rattle.std.specs.Option.{option_map}
@@ -7,12 +7,13 @@ use Rattle.std.specs.Prelude.{unwrap_or}
 use Rattle.std.proofs.lemmas.Bool.{cases_lt}
 use Rattle.std.proofs.lemmas.List.{length-map, get_or-map}
 use Rattle.std.proofs.lemmas.List.Sums.{sum_by-take-le}
+use Rattle.heap_layout.specs.Values.{is_immediate}
 use Rattle.heap_layout.specs.Heap.{Heap, from_address, live, IsClosed}
-use Rattle.page_plan.specs.Sliding.{forward, forwarded, live_words, new_address, number_of, size, slid_words, to_address}
+use Rattle.page_plan.specs.Sliding.{forward, forwarded, forwarded_value, live_words, new_address, number_of, size, slid_words, to_address}
 use Rattle.page_plan.proofs.Objects.{live_words-next, slid-address, slid-length}
 use Rattle.comp_cycles.proofs.Naming.{at_row, row_long}
 use Rattle.comp_cycles.proofs.ObjectWords.{words_by}
-use Rattle.moved_heaps.specs.Moved.{IsLawful, led, marked, place, size_at}
+use Rattle.moved_heaps.specs.Moved.{IsLawful, led, led_value, marked, place, size_at}
 use Rattle.moved_heaps.specs.Slid.{slid}
 use Rattle.moved_heaps.proofs.Finding.{led-unmarked, marked_number, number_below}
 
@@ -56,19 +57,27 @@ module _ (heap : Heap) (closed : IsClosed heap) where
       ap (λ (b : Bool). unwrap_or (cond b (Some 0) (option_map (new_address (live heap)) (number_of (live heap) (suc w)))) 0) (ne_eqb (suc w) 0 (λ e. omega (arith, e)))
       ∙ found_led (number_of (live heap) (suc w)) (number_below heap (suc w))
 
+  -- an immediate stays, in both
+  value_is : (w : ℕ) → forwarded_value heap.edition (live heap) w ≡ led_value heap.edition (live heap) (slid heap).places w
+  value_is w =
+      elim (is_immediate heap.edition w) as (λ b. unwrap_or (cond b (Some w) (forward (live heap) w)) 0 ≡ cond b w (led (live heap) (slid heap).places w)) [
+        | true ↦ refl
+        | false ↦ forwarded_is w
+      ]
+
   pub slid_is_lawful : IsLawful heap (slid heap)
   slid_is_lawful = record {
-    head = record { edition = refl; places = many; roots = length-map heap.roots (forwarded (live heap)) };
+    head = record { edition = refl; places = many; roots = length-map heap.roots (forwarded_value heap.edition (live heap)) };
     inside = λ k lt. omega (arith, place_is k lt, next_is k lt, sum_by-take-le size (live heap) (k + 1), slid-length heap closed);
     apart = λ k l ltk ltl other. ⊎_elim
         (λ (below : k < l). inl (ends_before k l below ltl))
         (λ (le : l ≤ k). inr (ends_before l k (let lt : l < k = omega (arith, le, other) in lt) ltk))
         (cases_lt k l);
-    roots = λ i lt. get_or-map (forwarded (live heap)) heap.roots i 0 0 lt ∙ forwarded_is (get_or heap.roots i 0);
+    roots = λ i lt. get_or-map (forwarded_value heap.edition (live heap)) heap.roots i 0 0 lt ∙ value_is (get_or heap.roots i 0);
     whole = λ k lt offset inside.
         ap (λ n. get_or (slid_words (live heap)) (n + offset) 0) (place_is k lt)
         ∙ slid-address heap closed k offset lt inside
-        ∙ ap (λ (g : ℕ → ℕ). get_or (words_by g (marked heap k)) offset 0) (fun_ext forwarded_is);
+        ∙ ap (λ (g : ℕ → ℕ). get_or (words_by g (marked heap k)) offset 0) (fun_ext value_is);
   }
 
   -- the plan forwards the old address of an object to that of its place

@@ -1,11 +1,23 @@
 -- Why a moved heap has one first fault.
-use Rattle.std.proofs.Common.{◌≡◌, ◌≢◌, ℕ, refl, rules}
+use Rattle.std.proofs.Common.{◌≡◌, ◌≢◌, ℕ, ◌<◌, ◌≤◌, length, inl, inr, refl, sym, ap₂, subst, arith, rules}
+use Rattle.std.proofs.lemmas.Bool.{cases_lt}
 use Rattle.heap_layout.specs.Heap.{Heap}
-use Rattle.moved_heaps.specs.Moved.{Moved}
-use Rattle.moved_heaps.specs.MovedFaults.{IsFirstFault}
+use Rattle.moved_heaps.specs.Moved.{Moved, IsWhole, IsWord, size_at}
+use Rattle.moved_heaps.specs.MovedFaults.{IsFirstFault, IsLeast}
 use Rattle.moved_heaps.specs.declared.fault.HeadPart.TheVariants.{Edition, Places, Roots}
 use Rattle.moved_heaps.specs.declared.fault.MovedFault.{MovedFault}
 use Rattle.moved_heaps.specs.declared.fault.MovedFault.TheVariants.{WrongHead, PlaceOutside, Overlap, WrongRoot, WrongWord, OutOfMemory}
+
+-- the least number below a count for which something does not hold is one
+least_once : (Holds : ℕ → Type 0) (count j k : ℕ) → IsLeast Holds count j → IsLeast Holds count k → j ≡ k
+least_once Holds count j k x y =
+    elim (cases_lt j k) [
+      | inl below ↦ absurd (x.fails (y.before j below))
+      | inr above ↦ elim (cases_lt k j) [
+        | inl under ↦ absurd (y.fails (x.before k under))
+        | inr over ↦ omega (arith, above, over)
+      ]
+    ]
 
 module _ (heap : Heap) (moved : Moved) where
   -- by the first of the two faults
@@ -28,7 +40,17 @@ module _ (heap : Heap) (moved : Moved) where
   root_first i other first second more = search rules
 
   word_first : (k offset : ℕ) (other : MovedFault) → IsFirstFault heap moved (WrongWord k offset) → IsFirstFault heap moved other → other ≢ OutOfMemory → WrongWord k offset ≡ other
-  word_first k offset other first second more = search rules
+  word_first k offset (WrongHead Edition) first second more = absurd (second first.0.overlaps.places.head.edition)
+  word_first k offset (WrongHead Places) first second more = absurd (second.1 first.0.overlaps.places.head.places)
+  word_first k offset (WrongHead Roots) first second more = absurd (second.2 first.0.overlaps.places.head.roots)
+  word_first k offset (PlaceOutside a) first second more = let least = second.1 in absurd (least.fails (first.0.overlaps.places.inside a least.below))
+  word_first k offset (Overlap a b) first second more = let least = second.1 in absurd (first.0.overlaps.none a b least.overlaps)
+  word_first k offset (WrongRoot a) first second more = let least = second.1 in absurd (least.fails (first.0.roots a least.below))
+  word_first k offset (WrongWord a b) first second more =
+      let same = least_once (IsWhole heap moved) (length heap.marks) k a first.1 second.1 in
+      let there : IsLeast (IsWord heap moved k) (size_at heap k) b = subst (λ (m : ℕ). IsLeast (IsWord heap moved m) (size_at heap m) b) (sym same) second.2 in
+      ap₂ WrongWord same (least_once (IsWord heap moved k) (size_at heap k) offset b first.2 there)
+  word_first k offset OutOfMemory first second more = absurd (more refl)
 
 pub one_first : (heap : Heap) (moved : Moved) (fault other : MovedFault) → IsFirstFault heap moved fault → IsFirstFault heap moved other → fault ≢ OutOfMemory → other ≢ OutOfMemory → fault ≡ other
 one_first heap moved (WrongHead Edition) other first second some more = edition_first heap moved other first second more

@@ -1,8 +1,9 @@
 -- A heap after its marked objects moved, each to a place of its own, and when it is lawful. The k-th marked object is
 -- the k-th of the old heap's live objects.
-use Rattle.std.specs.Prelude.{◌≡◌, ◌≢◌, ℕ, ◌+◌, ◌<◌, ◌≤◌, ◌⊎◌, List, ◌∷◌, ◌++◌, length, map, slice_index, unwrap_or}
+use Rattle.std.specs.Prelude.{◌≡◌, ◌≢◌, ℕ, ◌+◌, ◌<◌, ◌≤◌, ◌⊎◌, List, ◌∷◌, ◌++◌, length, map, cond, slice_index, unwrap_or}
 use Rattle.std.specs.Option.{option_map}
 use Rattle.heap_layout.specs.Header.{size_of}
+use Rattle.heap_layout.specs.Values.{is_immediate}
 use Rattle.heap_layout.specs.Heap.{Heap, Object, header_at, object_at, live}
 use Rattle.heap_layout.specs.declared.edition.Edition.{Edition}
 use Rattle.page_plan.specs.Sliding.{number_of, to_address}
@@ -36,10 +37,17 @@ end heap moved k = place moved k + size_at heap k
 abbrev pub led : List Object → List ℕ → ℕ → ℕ
 led objects places word = unwrap_or (option_map (λ k. to_address (slice_index places k)) (number_of objects word)) 0
 
+-- The same for a root, a reference or a weak word of a heap of this edition: an immediate stays as it is.
+abbrev pub led_value : Edition → List Object → List ℕ → ℕ → ℕ
+led_value edition objects places word = cond (is_immediate edition word) word (led objects places word)
+
 -- the words of an object after the move: its header and data words stay, its references and weak words lead to the new
--- places
+-- places, immediates stay
 abbrev pub words_after : List Object → List ℕ → Object → List ℕ
-words_after objects places object = object.header.word ∷ (map (led objects places) object.references ++ map (led objects places) object.weak ++ object.data_words)
+words_after objects places object =
+    object.header.word
+    ∷ (map (led_value object.header.edition objects places) object.references ++ map (led_value object.header.edition objects places) object.weak
+    ++ object.data_words)
 
 -- the edition is the heap's, there is a place for each marked object, and a root for each root
 pub record HasHead (heap : Heap) (moved : Moved) : Type 0 where
@@ -55,9 +63,9 @@ IsInside heap moved k = end heap moved k ≤ length moved.words
 abbrev pub AreApart : Heap → Moved → ℕ → ℕ → Type 0
 AreApart heap moved k l = (end heap moved k ≤ place moved l) ⊎ (end heap moved l ≤ place moved k)
 
--- root i is the new address of its object, or null if it was null
+-- root i is the new address of its object, or null if it was null, or the immediate that it was
 abbrev pub IsRoot : Heap → Moved → ℕ → Type 0
-IsRoot heap moved i = slice_index moved.roots i ≡ led (live heap) moved.places (slice_index heap.roots i)
+IsRoot heap moved i = slice_index moved.roots i ≡ led_value heap.edition (live heap) moved.places (slice_index heap.roots i)
 
 -- the word at this offset of the k-th marked object is right
 abbrev pub IsWord : Heap → Moved → ℕ → ℕ → Type 0

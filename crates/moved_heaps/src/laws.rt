@@ -10,7 +10,7 @@ ghost use Rattle.comp_dump.specs.declared.fault.DumpFault.TheVariants.{TrailingB
 ghost use Rattle.moved_heaps.specs.Moved.{place, Moved, IsLawful};
 ghost use Rattle.moved_heaps.specs.MovedFaults.{IsFirstFault};
 ghost use Rattle.moved_heaps.specs.MovedFiles.{moved_bytes, IsStored};
-ghost use Rattle.moved_heaps.specs.MovedNumbers.{listed_by, IsNumberedAt};
+ghost use Rattle.moved_heaps.specs.MovedNumbers.{IsLow, listed_by, IsNumberedAt};
 ghost use Rattle.moved_heaps.specs.MovedReading.{read_whole};
 ghost use Rattle.moved_heaps.specs.Slid.{slid};
 ghost use Rattle.moved_heaps.specs.declared.fault.MovedFault.{MovedFault as AFault};
@@ -37,11 +37,11 @@ pub fn sliding_is_lawful()
 
 /// A lawful heap is the same heap in object numbers. If a stable heap stands for the marked objects of an accepted
 /// heap, it stands for the moved heap too, with the new place of each object in the order of the marks; and so it does
-/// in any other order, as that of the new places.
+/// in any other order, as that of the new places. In edition four the new addresses must be below 2^63.
 pub fn same_in_object_numbers()
-    ensures marks { (heap : Heap) (moved : Moved) (numbers : List ℕ) (stable : StableHeap) → IsClosed heap → IsLawful heap moved → IsNumberedAs heap numbers stable
+    ensures marks { (heap : Heap) (moved : Moved) (numbers : List ℕ) (stable : StableHeap) → IsClosed heap → IsLawful heap moved → IsNumberedAs heap numbers stable → IsLow moved
         → IsNumberedAt moved (zip moved.places numbers) stable }
-    ensures order { (heap : Heap) (moved : Moved) (numbers : List ℕ) (stable : StableHeap) (row : List (ℕ × ℕ)) → IsClosed heap → IsLawful heap moved → IsNumberedAs heap numbers stable
+    ensures order { (heap : Heap) (moved : Moved) (numbers : List ℕ) (stable : StableHeap) (row : List (ℕ × ℕ)) → IsClosed heap → IsLawful heap moved → IsNumberedAs heap numbers stable → IsLow moved
         → IsPermutation (zip moved.places numbers) row → IsNumberedAt moved row (listed_by row stable) }
 {}
 

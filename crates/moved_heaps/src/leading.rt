@@ -1,20 +1,23 @@
 //! Where a word leads after the move.
 ghost use Rattle.std.specs.Prelude.{◌≡◌, ◌<◌, length, IfSome};
 ghost use Rattle.heap_layout.specs.Heap.{live};
-ghost use Rattle.moved_heaps.specs.Moved.{led};
+ghost use Rattle.moved_heaps.specs.Moved.{led_value};
 ghost use Rattle.page_plan.specs.Sliding.{number_of};
 
 use crate::index::Index;
 use heap_layout::{FROM_SPACE, MarkedHeap, TO_SPACE};
 
 /// Where a root, a reference or a weak word leads once the marked objects are at these places: to the new place of its
-/// object, and to null if it is null or no marked object is there. The index must be that of the heap, and there must
-/// be a place for each marked object.
+/// object, and to null if it is null or no marked object is there. An immediate stays as it is. The index must be that of
+/// the heap, and there must be a place for each marked object.
 pub(crate) fn led(heap: &MarkedHeap, index: &Index, places: &[u32], word: u64) -> u64
     requires index { index.now ≡ heap.now.marks }
     requires places { length places.now ≡ length heap.now.marks }
-    ensures { result ≡ led (live heap.now) places.now word }
+    ensures { result ≡ led_value heap.now.edition (live heap.now) places.now word }
 {
+    if heap.edition().is_immediate(word) {
+        return word;
+    }
     match number_of(heap, index, word) {
         Some(k) => TO_SPACE + u64::from(places[k]),
         None => 0,

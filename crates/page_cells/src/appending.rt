@@ -24,7 +24,8 @@ impl<B: Builder> Cells<B> {
     /// `OutOfMemory`. After either nothing has changed.
     ///
     /// Requires that the pass was made with these cells, an offset below 64, and that the entry may follow those of the
-    /// page (`Fits`). A value for a reference or weak field must be null or a start that the pass knows.
+    /// page (`Fits`). A value for a reference or weak field must be null, an immediate of edition four, or a start that
+    /// the pass knows.
     pub fn append(
         &self,
         pass: &mut Pass,

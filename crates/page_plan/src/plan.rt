@@ -3,7 +3,7 @@ ghost use Rattle.heap_layout.specs.Heap.{live, IsClosed};
 ghost use Rattle.heap_layout.specs.Limits.{most_words, most_pages};
 ghost use Rattle.mark_tables.specs.LiveWords.{live_indices};
 ghost use Rattle.page_plan.specs.Planned.{AreFirst, AreStarts};
-ghost use Rattle.page_plan.specs.Sliding.{first_object, forward, kind, live_words, page, pages, shape_at, to_address, HasObject, slid_words, IsPartFrom};
+ghost use Rattle.page_plan.specs.Sliding.{first_object, forward, forward_value, kind, live_words, page, pages, shape_at, to_address, HasObject, slid_words, IsPartFrom};
 
 use crate::{first_objects, forwarding, page_builder, starts};
 use heap_layout::{FROM_SPACE, Header, Kind, MarkedHeap, OutOfMemory, PageWords, TO_SPACE, is_set};
@@ -192,9 +192,20 @@ impl Plan {
         }
     }
 
+    /// Forwards a root, a reference or a weak word of the heap: an immediate of edition four to itself, any other word as
+    /// `forward` does.
+    pub fn forward_value(&self, word: u64) -> Option<u64>
+        ensures { result ≡ forward_value self.now.edition (live self.now) word }
+    {
+        if self.heap().edition().is_immediate(word) {
+            return Some(word);
+        }
+        self.forward(word)
+    }
+
     /// The forwarded roots, in their order. Err if they can not be allocated.
     pub fn forward_roots(&self, alloc: Global) -> Result<Vec<u64>, OutOfMemory>
-        ensures { IfOk result (λ roots. map (λ address. Some address) roots.items ≡ map (forward (live self.now)) self.now.roots) }
+        ensures { IfOk result (λ roots. map (λ address. Some address) roots.items ≡ map (forward_value self.now.edition (live self.now)) self.now.roots) }
     {
         Ok(forwarding::forward_all(alloc, self, self.heap.roots())?)
     }

@@ -4,7 +4,7 @@ use Rattle.std.specs.Prelude.{◌/◌, ◌^◌, nat_lt}
 use Rattle.page_plan.specs.Header.{data_of, header_of, header_with, header_word, refs_of, size_of, weak_header_word, weak_of, Head}
 use Rattle.page_plan.specs.Kinds.{count_of, first_of}
 use Rattle.page_plan.specs.Edition.{Edition}
-use Rattle.page_plan.specs.Edition.TheVariants.{One, Two, Three}
+use Rattle.page_plan.specs.Edition.TheVariants.{One, Two, Three, Four}
 use Rattle.page_plan.specs.Kind.{Kind}
 use Rattle.page_plan.specs.Kind.TheVariants.{Header, Reference, Weak, Data}
 use Rattle.page_plan.proofs.Shapes.{field-inside}
@@ -70,6 +70,13 @@ is_made u old made Two refs weak data_words tag object r w d h =
 is_made u old made Three refs weak data_words tag object r w d h =
     let word = weak_header_word refs weak data_words tag in
     where_so u old made refs weak data_words object (header_of Three word) (nat_lt tag (2 ^ 14))
+    (λ small.
+    let low : tag < 2 ^ 14 = ltb-true tag (2 ^ 14) small in
+    let mixed : (word / 2 ^ 62 == 0) ≡ true = eq-eqb (word / 2 ^ 62) 0 (omega (arith, r, w, d, low)) in
+    (rw mixed (omega (arith, r, w, d)), rw mixed (omega (arith, r, w, d)), rw mixed (omega (arith, r, w, d)))) h
+is_made u old made Four refs weak data_words tag object r w d h =
+    let word = weak_header_word refs weak data_words tag in
+    where_so u old made refs weak data_words object (header_of Four word) (nat_lt tag (2 ^ 14))
     (λ small.
     let low : tag < 2 ^ 14 = ltb-true tag (2 ^ 14) small in
     let mixed : (word / 2 ^ 62 == 0) ≡ true = eq-eqb (word / 2 ^ 62) 0 (omega (arith, r, w, d, low)) in

@@ -1,5 +1,5 @@
 -- The marks of the objects that the roots reach, in a heap.
-use Rattle.std.proofs.Common.{◌≡◌, ℕ, ◌+◌, ◌≤◌, ◌==◌, ◌⊎◌, Bool, true, false, eqb, List, [], ◌∷◌, ◌++◌, All, inl, inr, length, Contains, refl, sym, ap, subst, ◌∙◌, arith}
+use Rattle.std.proofs.Common.{◌≡◌, ℕ, ◌+◌, ◌^◌, ◌<◌, ◌≤◌, ◌==◌, ◌⊎◌, Bool, true, false, eqb, List, [], ◌∷◌, ◌++◌, All, inl, inr, length, Contains, refl, sym, ap, subst, ◌∙◌, arith}
 use Rattle.std.specs.List.{flat_map, list_any, enumerate_from}
 use Rattle.std.proofs.lemmas.Bool.{eqb-true, eq-eqb, le-leb, or_cases, or_left, or_right}
 use Rattle.std.proofs.lemmas.List.Elements.{All-contains}
@@ -7,8 +7,10 @@ use Rattle.heap_layout.specs.declared.edition.Edition.{Edition}
 use Rattle.heap_layout.specs.declared.kind.Kind.{Kind}
 use Rattle.heap_layout.specs.declared.kind.Kind.TheVariants.{Reference, Weak}
 use Rattle.heap_layout.specs.Limits.{most_words, most_roots}
+use Rattle.heap_layout.proofs.Bounds.{words_most}
+use Rattle.heap_layout.proofs.Values.{no-immediate, value-immediate, value-target, value-cases}
 use Rattle.heap_layout.specs.Kinds.{first_of}
-use Rattle.heap_layout.specs.Heap.{Heap, header_at, object_at, fields_of, from_address, starts, is_start, is_target, IsTarget, IsClosed}
+use Rattle.heap_layout.specs.Heap.{Heap, header_at, object_at, fields_of, from_address, starts, is_start, is_target, is_value, IsTarget, IsValue, IsClosed}
 use Rattle.heap_layout.specs.Faults.{unless, size_faults, mark_faults, root_faults, target_faults, weak_faults, reference_faults_by, field_faults_by, IsAccepted}
 use Rattle.heap_layout.specs.declared.fault.LayoutFault.{LayoutFault}
 use Rattle.heap_layout.specs.declared.fault.LayoutFault.TheVariants.{BadRoot}
@@ -89,15 +91,29 @@ target-back marks i target =
       | inr marked ↦ let same : marked.0 ≡ i = (let is = marked.2 in omega arith) in subst (λ (j : ℕ). has marks j ≡ true) same marked.1
     ]
 
+-- an address that is a value is that of a marked object, if its index is small
+value-back : (edition : Edition) (marks : List ℕ) (i : ℕ) → i < 2 ^ 62 → IsValue edition marks (from_address i) → has marks i ≡ true
+value-back edition marks i small value =
+    elim (value-cases edition marks (from_address i) value) [
+      | inl immediate ↦ absurd (no-immediate edition (from_address i) (omega arith) immediate)
+      | inr target ↦ target-back marks i target
+    ]
+
 -- ---- accepted heaps
+
+-- an object of an accepted heap has a small index
+start-small : (heap : Heap) → IsClosed heap → (i : ℕ) → is_start (starts heap.edition heap.words) i ≡ true → i < 2 ^ 62
+start-small heap is i start = omega (arith, starts-within heap.edition 0 0 heap.words i start, is.few_words, words_most heap.edition)
 
 -- what the roots of an accepted heap reach is marked
 pub reachable-marked : (heap : Heap) → IsClosed heap → (i : ℕ) → IsReachable heap.edition heap.words heap.roots i → has heap.marks i ≡ true
-reachable-marked heap is i (by_root _ leads) = target-back heap.marks i (All-contains (IsTarget heap.marks) heap.roots (from_address i) is.roots leads.address)
+reachable-marked heap is i (by_root _ leads) =
+    value-back heap.edition heap.marks i (start-small heap is i leads.start) (All-contains (IsValue heap.edition heap.marks) heap.roots (from_address i) is.roots leads.address)
 reachable-marked heap is j (by_reference i _ reached leads) =
     let marked = contains-had heap.marks i (reachable-marked heap is i reached) in
-    let targets = All-contains (λ mark. All (IsTarget heap.marks) (object_at heap.edition heap.words mark).references) heap.marks i is.references marked in
-    target-back heap.marks j (All-contains (IsTarget heap.marks) (object_at heap.edition heap.words i).references (from_address j) targets leads.address)
+    let targets = All-contains (λ mark. All (IsValue heap.edition heap.marks) (object_at heap.edition heap.words mark).references) heap.marks i is.references marked in
+    value-back heap.edition heap.marks j (start-small heap is j leads.start)
+    (All-contains (IsValue heap.edition heap.marks) (object_at heap.edition heap.words i).references (from_address j) targets leads.address)
 
 -- words that pass a test have no fault
 pub roots-none : (test : ℕ → Bool) (number : ℕ) (roots : List ℕ) → ((root : ℕ) → has roots root ≡ true → test root ≡ true)
@@ -122,16 +138,21 @@ fields-none kind edition test words (mark ∷ marks) pass =
     ap (λ (list : List LayoutFault). list ++ field_faults_by kind edition test words marks) here ∙ rest
 
 -- a word that leads to a marked object of the heap leads to a reachable one, if words lead to reachable ones
-narrowed : (heap : Heap) (marks from : List ℕ) (word : ℕ) → IsClosed heap → All (IsTarget heap.marks) from → has from word ≡ true
-    → ((i : ℕ) → LeadTo heap.edition heap.words from i → has marks i ≡ true) → IsTarget marks word
-narrowed heap marks from word is targets there reached =
-    elim (target-cases heap.marks word (All-contains (IsTarget heap.marks) from word targets (contains-had from word there))) [
-      | inl null ↦ subst (IsTarget marks) (sym null) refl
-      | inr marked ↦
-          let i = marked.0 in
-          let start = All-contains (λ mark. is_start (starts heap.edition heap.words) mark ≡ true) heap.marks i is.started (contains-had heap.marks i marked.1) in
-          let leads : LeadTo heap.edition heap.words from i = record { start = start; address = subst (Contains from) marked.2 (contains-had from word there) } in
-          subst (IsTarget marks) (sym marked.2) (target-marked marks i (reached i leads))
+narrowed : (heap : Heap) (marks from : List ℕ) (word : ℕ) → IsClosed heap → All (IsValue heap.edition heap.marks) from → has from word ≡ true
+    → ((i : ℕ) → LeadTo heap.edition heap.words from i → has marks i ≡ true) → IsValue heap.edition marks word
+narrowed heap marks from word is values there reached =
+    elim (value-cases heap.edition heap.marks word (All-contains (IsValue heap.edition heap.marks) from word values (contains-had from word there))) [
+      | inl immediate ↦ value-immediate heap.edition marks word immediate
+      | inr target ↦ value-target heap.edition marks word (
+          elim (target-cases heap.marks word target) [
+            | inl null ↦ subst (IsTarget marks) (sym null) refl
+            | inr marked ↦
+                let i = marked.0 in
+                let start = All-contains (λ mark. is_start (starts heap.edition heap.words) mark ≡ true) heap.marks i is.started (contains-had heap.marks i marked.1) in
+                let leads : LeadTo heap.edition heap.words from i = record { start = start; address = subst (Contains from) marked.2 (contains-had from word there) } in
+                subst (IsTarget marks) (sym marked.2) (target-marked marks i (reached i leads))
+          ]
+          )
     ]
 
 -- the heap with other marks
@@ -157,16 +178,16 @@ accepted-least heap marks accepted are =
     let there : (i : ℕ) → IsReachable e words heap.roots i → has marks i ≡ true = λ i reached. has-contained marks i (are.all i reached) in
     let reached : (i : ℕ) → has marks i ≡ true → IsReachable e words heap.roots i = λ i marked. are.reachable i (contains-had marks i marked) in
     let sizes = sizes-none e (length words) (length marks) (length heap.roots) few.0 (omega arith) few.2 in
-    let roots : root_faults marks heap.roots ≡ [] =
-    roots-none (is_target marks) 0 heap.roots (λ root among. narrowed heap marks heap.roots root is is.roots among (λ i leads. there i (by_root i leads))) in
+    let roots : root_faults e marks heap.roots ≡ [] =
+    roots-none (is_value e marks) 0 heap.roots (λ root among. narrowed heap marks heap.roots root is is.roots among (λ i leads. there i (by_root i leads))) in
     let targets : target_faults e words marks marks ≡ [] =
-    fields-none Reference e (is_target marks) words marks (λ mark word marked among.
-    let all = All-contains (λ m. All (IsTarget heap.marks) (object_at e words m).references) heap.marks mark is.references
+    fields-none Reference e (is_value e marks) words marks (λ mark word marked among.
+    let all = All-contains (λ m. All (IsValue e heap.marks) (object_at e words m).references) heap.marks mark is.references
     (contains-had heap.marks mark (reachable-marked heap is mark (reached mark marked))) in
     narrowed heap marks (object_at e words mark).references word is all among (λ i leads. there i (by_reference mark i (reached mark marked) leads))) in
     let weak : weak_faults e words marks ≡ [] =
-    fields-none Weak e (is_target (starts e words)) words marks (λ mark word marked among.
-    let all = All-contains (λ m. All (IsTarget (starts e words)) (object_at e words m).weak) heap.marks mark is.weak
+    fields-none Weak e (is_value e (starts e words)) words marks (λ mark word marked among.
+    let all = All-contains (λ m. All (IsValue e (starts e words)) (object_at e words m).weak) heap.marks mark is.weak
     (contains-had heap.marks mark (reachable-marked heap is mark (reached mark marked))) in
-    All-contains (IsTarget (starts e words)) (object_at e words mark).weak word all (contains-had (object_at e words mark).weak word among)) in
+    All-contains (IsValue e (starts e words)) (object_at e words mark).weak word all (contains-had (object_at e words mark).weak word among)) in
     rw (sizes, parts.row, marks-sound e words heap.roots marks are, roots, targets, weak) refl

@@ -3,7 +3,7 @@ use Rattle.std.proofs.Common.{◌≡◌, ℕ, Bool, true, false, leb, List, [], 
 use Rattle.std.specs.List.{flat_map}
 use Rattle.std.proofs.lemmas.Bool.{leb-true, le-leb}
 use Rattle.heap_layout.specs.declared.edition.Edition.{Edition}
-use Rattle.heap_layout.specs.declared.edition.Edition.TheVariants.{One, Two, Three}
+use Rattle.heap_layout.specs.declared.edition.Edition.TheVariants.{One, Two, Three, Four}
 use Rattle.heap_layout.specs.Limits.{most_words, most_roots}
 use Rattle.heap_layout.specs.Heap.{starts}
 use Rattle.heap_layout.specs.Faults.{unless, size_faults, object_faults, mark_faults, root_faults, target_faults, weak_faults, faults, IsFirst, IsAnswered, IsRefusedMemory}
@@ -50,6 +50,7 @@ refuses-memory : (edition : Edition) (list : List LayoutFault) (fault : LayoutFa
 refuses-memory One list fault memory = absurd memory
 refuses-memory Two list fault memory = absurd memory
 refuses-memory Three list fault memory = subst (RefusesFor list) (sym memory.0) tt
+refuses-memory Four list fault memory = subst (RefusesFor list) (sym memory.0) tt
 
 -- so does what the checks of a heap answer
 pub refuses-answered : (edition : Edition) (list : List LayoutFault) (fault : LayoutFault) → IsAnswered edition list fault → RefusesFor list fault
@@ -97,7 +98,7 @@ refused-row edition words roots marks fault are refuses =
     let row = flat_map (object_faults edition words) (starts edition words) in
     let sizes = size_faults edition (length words) (length marks) (length roots) in
     let no_marks = mark_faults (starts edition words) 0 marks in
-    let of_roots = root_faults marks roots in
+    let of_roots = root_faults edition marks roots in
     let targets = target_faults edition words marks marks in
     let weak = weak_faults edition words marks in
     let none : leb 0 most ≡ true = le-leb 0 most (omega arith) in

@@ -1,12 +1,15 @@
 -- A step that keeps objects keeps exactly those that the roots reach.
-use Rattle.std.proofs.Common.{◌≡◌, ℕ, ◌+◌, ◌<◌, List, length, get_or, refl, sym, ap, subst, ◌∙◌, inl, inr, arith}
-use Rattle.std.proofs.lemmas.Bool.{cases_lt}
+use Rattle.std.proofs.Common.{◌≡◌, ℕ, ◌+◌, ◌<◌, ◌≤◌, false, List, length, get_or, refl, sym, ap, subst, ◌∙◌, inl, inr, arith}
+use Rattle.std.proofs.lemmas.Bool.{both_ways, cases_lt}
 use Rattle.std.proofs.lemmas.List.{get_or_past}
 use Rattle.heap_layout.specs.Header.{Head, header_of, refs_of}
 use Rattle.heap_layout.specs.Kinds.{first_of}
 use Rattle.heap_layout.specs.Heap.{Heap, IsClosed}
 use Rattle.heap_layout.specs.declared.kind.Kind.TheVariants.{Weak}
+use Rattle.heap_layout.specs.Values.{is_immediate, LeadsNowhere}
+use Rattle.heap_layout.proofs.Values.{nowhere-cases}
 use Rattle.heap_layout.proofs.Indexed.{at_below, read_at}
+use Rattle.comp_cycles.specs.Cycles.{AreApart}
 use Rattle.comp_cycles.specs.Numbered.{IsNumberedAs}
 use Rattle.comp_cycles.specs.Stable.{StableHeap, Keeps, IsAmong, MayKeep, head_of, left_words, stepped}
 use Rattle.comp_cycles.proofs.Leaving.{left_other, left_long, left_at}
@@ -47,16 +50,20 @@ module _ (stable : StableHeap) (objects : List ℕ) where
 
   -- what the roots reach after the step, they reached before it
   pub reached_before : (n : ℕ) → IsReachableIn kept stable.roots n → IsReachableIn stable stable.roots n
-  reached_before n (by_root _ low among) = by_root n low among
-  reached_before n (by_reference m _ reached low leads) = by_reference m n (reached_before m reached) low (led_before m n leads)
+  reached_before n (by_root _ low on among) = by_root n low on among
+  reached_before n (by_reference m _ reached low on leads) = by_reference m n (reached_before m reached) low on (led_before m n leads)
+
+  -- an object's number leads on
+  leads_on : (n : ℕ) → 1 ≤ n → is_immediate stable.edition n ≡ false → LeadsNowhere stable.edition n → ⊥
+  leads_on n low on nowhere = elim (nowhere-cases stable.edition n nowhere) [ inl null ↦ omega arith | inr immediate ↦ both_ways (is_immediate stable.edition n) on immediate ]
 
   -- what the roots reach is kept
   pub reached_kept : MayKeep stable objects → (n : ℕ) → IsReachableIn stable stable.roots n → IsAmong objects n
-  reached_kept may n (by_root _ low among) =
-      elim (may.roots n among) [ inl null ↦ absurd (omega arith) | inr there ↦ there ]
-  reached_kept may n (by_reference m _ reached low leads) =
+  reached_kept may n (by_root _ low on among) =
+      elim (may.roots n among) [ inl nowhere ↦ absurd (leads_on n low on nowhere) | inr there ↦ there ]
+  reached_kept may n (by_reference m _ reached low on leads) =
       elim (may.closed m leads.field (reached_kept may m reached) leads.inside) [
-        | inl null ↦ absurd (let value = leads.value in omega arith)
+        | inl nowhere ↦ absurd (leads_on n low on (subst (LeadsNowhere stable.edition) leads.value nowhere))
         | inr there ↦ subst (IsAmong objects) leads.value there
       ]
 
@@ -64,9 +71,9 @@ module _ (stable : StableHeap) (objects : List ℕ) where
 
 -- If the objects of a closed heap are those that its roots reach, and the step that keeps them left that heap, then the
 -- step kept exactly the objects that the roots reached.
-pub keeps_exactly : (heap : Heap) (numbers : List ℕ) (stable : StableHeap) → IsClosed heap → IsNumberedAs heap numbers (stepped stable (Keeps numbers)) → MayKeep stable numbers
+pub keeps_exactly : (heap : Heap) (numbers : List ℕ) (stable : StableHeap) → IsClosed heap → IsNumberedAs heap numbers (stepped stable (Keeps numbers)) → AreApart heap.edition stable.given → MayKeep stable numbers
     → AreReachable heap.edition heap.words heap.roots heap.marks → KeepsExactly stable numbers
-keeps_exactly heap numbers stable closed is may are n =
+keeps_exactly heap numbers stable closed is apart may are n =
     let after = stepped stable (Keeps numbers) in (
       λ among.
           let k = among.0 in
@@ -75,6 +82,6 @@ keeps_exactly heap numbers stable closed is may are n =
           let marked : k < length heap.marks = omega arith in
           let at : number heap numbers after closed is (get_or heap.marks k 0) ≡ n = number_is heap numbers after closed is k marked ∙ read_at numbers k n 0 among.1 in
           let reached = are.reachable (get_or heap.marks k 0) (contains_at heap.marks k (get_or heap.marks k 0) marked refl) in
-          subst (IsReachableIn stable stable.roots) at (reached_before stable numbers _ (to_stable heap numbers after closed is (get_or heap.marks k 0) reached)),
+          subst (IsReachableIn stable stable.roots) at (reached_before stable numbers _ (to_stable heap numbers after closed is apart (get_or heap.marks k 0) reached)),
       reached_kept stable numbers may n,
     )

@@ -1,14 +1,14 @@
 -- Cycles after which exactly the reachable objects are marked.
-use Rattle.std.proofs.Common.{◌≡◌, ℕ, suc, Option, Some, None, List, [], ◌∷◌, ◌++◌, length, Contains, refl, sym, ap, subst, ◌∙◌, arith, append_assoc}
+use Rattle.std.proofs.Common.{◌≡◌, ℕ, ◌≤◌, suc, Option, Some, None, List, [], ◌∷◌, ◌++◌, length, Contains, refl, sym, ap, subst, ◌∙◌, arith, append_assoc}
 use Rattle.heap_layout.specs.Heap.{Heap, IsClosed}
 use Rattle.heap_layout.specs.declared.kind.Kind.{Kind}
 use Rattle.heap_layout.specs.declared.kind.Kind.TheVariants.{Header, Reference, Weak, Data}
 use Rattle.comp_journal.specs.declared.entry.Entry.{Entry}
 use Rattle.comp_history.specs.OneThread.{OneThreadHeap, first_heap, address_of, after}
-use Rattle.comp_cycles.specs.Cycles.{Cycle, Follow, IsCycleOf, IsChapter, entries_of, given_after, heap_after, names_of, numbers_after, rooted, roots_after, story, story_of}
+use Rattle.comp_cycles.specs.Cycles.{Cycle, Follow, IsCycleOf, AreApart, TellsChapter, given_left, entries_of, given_after, heap_after, names_of, numbers_after, rooted, roots_after, story, story_of}
 use Rattle.comp_cycles.specs.Numbered.{Names, numbered, step_of, first_numbers, first_numbered, IsNumberedAs}
 use Rattle.comp_cycles.specs.Stable.{StableHeap, Step, Keeps, MayKeep, IsLife, lived, stepped}
-use Rattle.comp_cycles.proofs.Chapters.{one_chapter, first_is}
+use Rattle.comp_cycles.proofs.Chapters.{one_chapter, first_is, given_le}
 use Rattle.comp_cycles.proofs.Lives.{lived_parts}
 use Rattle.comp_cycles.proofs.Rows.{next_closed}
 use Rattle.reachable_cycles.specs.StableReach.{AreMarkedReachable, KeepsExactly, KeepsReachable, written, written_in}
@@ -41,7 +41,7 @@ record Ends (c : Cycle) (numbers : List ℕ) (stable : StableHeap) : Type 0 wher
   may : MayKeep (written c numbers stable) (numbers_after c numbers stable.given)
   lived_is : lived stable (story_of c numbers stable.given) ≡ stepped (written c numbers stable) (Keeps (numbers_after c numbers stable.given))
 
-ends : (c : Cycle) (numbers : List ℕ) (stable : StableHeap) → IsChapter c numbers stable → Ends c numbers stable
+ends : (c : Cycle) (numbers : List ℕ) (stable : StableHeap) → TellsChapter c numbers stable → Ends c numbers stable
 ends c numbers stable chapter =
     let steps = written_in c numbers stable.given in
     let keeps = Keeps (numbers_after c numbers stable.given) ∷ [] in
@@ -52,14 +52,16 @@ ends c numbers stable chapter =
     }
 
 -- one cycle
-pub cycle_keeps : (heap : Heap) (c : Cycle) (numbers : List ℕ) (stable : StableHeap) → IsClosed heap → IsCycleOf heap c → IsNumberedAs heap numbers stable → AreMarkedReachable c
+pub cycle_keeps : (heap : Heap) (c : Cycle) (numbers : List ℕ) (stable : StableHeap) → IsClosed heap → IsCycleOf heap c → IsNumberedAs heap numbers stable
+    → AreApart c.setup.heap.edition (given_after c stable.given) → AreMarkedReachable c
     → KeepsExactly (written c numbers stable) (numbers_after c numbers stable.given)
-cycle_keeps heap c numbers stable closed is numbered_as are =
-    let chapter = one_chapter heap c numbers stable closed is numbered_as in
+cycle_keeps heap c numbers stable closed is numbered_as apart are =
+    let chapter = one_chapter heap c numbers stable closed is numbered_as apart in
     let kept = numbers_after c numbers stable.given in
     let e = ends c numbers stable chapter in
     let left : IsNumberedAs (heap_after c) kept (stepped (written c numbers stable) (Keeps kept)) = subst (IsNumberedAs (heap_after c) kept) e.lived_is chapter.kept in
-    keeps_exactly (heap_after c) kept (written c numbers stable) (after_closed heap c closed is) left e.may are
+    let given : (written c numbers stable).given ≡ given_after c stable.given = sym (ap (λ (s : StableHeap). s.given) e.lived_is) ∙ chapter.given in
+    keeps_exactly (heap_after c) kept (written c numbers stable) (after_closed heap c closed is) left (subst (AreApart c.setup.heap.edition) (sym given) apart) e.may are
 
 -- ---- all cycles
 
@@ -95,26 +97,29 @@ writing_passes c numbers stable steps rest =
     (entries_pass (roots ++ steps) names (entries_of c) (first_heap c.setup) stable (roots_pass (lived stable entries) names c.new_roots steps at_roots))
 
 pub cycles_keep : (cycles : List Cycle) (heap last : Heap) (numbers : List ℕ) (stable : StableHeap) → IsClosed heap → IsNumberedAs heap numbers stable → Follow heap cycles last
-    → ((c : Cycle) → Contains cycles c → AreMarkedReachable c) → KeepsReachable stable (story cycles numbers stable.given)
-cycles_keep [] heap last numbers stable closed numbered_as follow are = tt
-cycles_keep (c ∷ cs) heap last numbers stable closed numbered_as follow are =
+    → AreApart heap.edition (given_left cycles stable.given) → ((c : Cycle) → Contains cycles c → AreMarkedReachable c) → KeepsReachable stable (story cycles numbers stable.given)
+cycles_keep [] heap last numbers stable closed numbered_as follow apart are = tt
+cycles_keep (c ∷ cs) heap last numbers stable closed numbered_as follow apart are =
     let is = follow.0 in
-    let chapter = one_chapter heap c numbers stable closed is numbered_as in
+    let own_apart : AreApart c.setup.heap.edition (given_left cs (given_after c stable.given)) = subst (λ (h : Heap). AreApart h.edition (given_left cs (given_after c stable.given))) (sym is.heap_is) apart in
+    let here_apart : AreApart c.setup.heap.edition (given_after c stable.given) = λ k le. own_apart k (let more = given_le cs (given_after c stable.given) in omega (arith, more, le)) in
+    let chapter = one_chapter heap c numbers stable closed is numbered_as here_apart in
     let kept = numbers_after c numbers stable.given in
     let steps = written_in c numbers stable.given in
     let next = lived stable (story_of c numbers stable.given) in
     let others = story cs kept (given_after c stable.given) in
     let rest = cycles_keep cs (heap_after c) last kept next (after_closed heap c closed is) chapter.kept follow.1
-    (λ other there. are other (suc there.0, (let inside = there.1 in omega arith), there.2)) in
+    (subst (λ n. AreApart c.setup.heap.edition (given_left cs n)) (sym chapter.given) own_apart) (λ other there. are other (suc there.0, (let inside = there.1 in omega arith), there.2)) in
     let at_given : KeepsReachable next others = subst (λ (n : ℕ). KeepsReachable next (story cs kept n)) chapter.given rest in
     let at_step : KeepsReachable (stepped (written c numbers stable) (Keeps kept)) others =
     subst (λ (s : StableHeap). KeepsReachable s others) (ends c numbers stable chapter).lived_is at_given in
-    let here = cycle_keeps heap c numbers stable closed is numbered_as (are c (0, omega arith, refl)) in
+    let here = cycle_keeps heap c numbers stable closed is numbered_as here_apart (are c (0, omega arith, refl)) in
     let parts : story (c ∷ cs) numbers stable.given ≡ steps ++ Keeps kept ∷ others =
     ap (λ (list : List Step). list ++ others) (story_parts c numbers stable.given) ∙ append_assoc steps (Keeps kept ∷ []) others in
     subst (KeepsReachable stable) (sym parts) (writing_passes c numbers stable (Keeps kept ∷ others) (here, at_step))
 
 -- from the first heap on
-pub cycles_keep_reachable : (heap last : Heap) (cycles : List Cycle) → IsClosed heap → Follow heap cycles last → ((c : Cycle) → Contains cycles c → AreMarkedReachable c)
+pub cycles_keep_reachable : (heap last : Heap) (cycles : List Cycle) → IsClosed heap → Follow heap cycles last
+    → AreApart heap.edition (given_left cycles (length heap.marks)) → ((c : Cycle) → Contains cycles c → AreMarkedReachable c)
     → KeepsReachable (first_numbered heap) (story cycles (first_numbers heap) (length heap.marks))
-cycles_keep_reachable heap last cycles closed follow are = cycles_keep cycles heap last (first_numbers heap) (first_numbered heap) closed (first_is heap) follow are
+cycles_keep_reachable heap last cycles closed follow apart are = cycles_keep cycles heap last (first_numbers heap) (first_numbered heap) closed (first_is heap) follow apart are

@@ -7,6 +7,7 @@ use Rattle.heap_layout.specs.declared.edition.Edition.{Edition}
 use Rattle.heap_layout.specs.declared.fault.LayoutFault.{LayoutFault}
 use Rattle.heap_layout.specs.declared.fault.LayoutFault.TheVariants.{TooLarge, ObjectPastEnd, ObjectTooLong, MarkNotStart, MarksNotRising, BadRoot, UnmarkedTarget, Truncated, TrailingBytes, BadMagic, OutOfMemory, Device, BadWeak}
 use Rattle.heap_layout.specs.Bits.{leads}
+use Rattle.heap_layout.specs.Values.{or_immediate}
 use Rattle.heap_layout.specs.Heap.{Heap, starts}
 use Rattle.heap_layout.specs.Limits.{most_words, most_roots}
 use Rattle.heap_layout.specs.Faults.{unless, size_faults, object_faults, root_faults_by, IsFirst}
@@ -128,7 +129,7 @@ refused_forwarded heap f roots fault e same refuses =
 
 -- what the call that marks finds, out of the words, the bits and the lowered roots that it makes
 module _ (heap : Heap) (f : Finished) (e : IsEndOf heap f) (roots : List ℕ) (edition : Edition) (words bits lower : List ℕ) (same : edition ≡ edition_in f)
-    (moved : AreMoved (setup_in heap f) (journals_of f) (64 * length (pages_of f)) words bits) (roots_are : lower ≡ map lowered (map held roots))
+    (moved : AreMoved (setup_in heap f) (journals_of f) (64 * length (pages_of f)) words bits) (roots_are : lower ≡ map (lowered edition) (map held roots))
   where
     abbrev u : Setup
     u = setup_in heap f
@@ -139,18 +140,28 @@ module _ (heap : Heap) (f : Finished) (e : IsEndOf heap f) (roots : List ℕ) (e
     moved_all : AreMoved u journals (64 * pages u) words bits
     moved_all = subst (λ (n : ℕ). AreMoved u journals (64 * n) words bits) e.finished.pages.count moved
 
-    same_faults : (now lower_now : List ℕ) → now ≡ bits → lower_now ≡ lower → root_faults_by (leads now) lower_now ≡ root_faults_by (leads bits) (map lowered (map held roots))
-    same_faults now lower_now at at_lower = rw (at, at_lower, roots_are) refl
+    edition_is : edition ≡ heap.edition
+    edition_is = same ∙ e.finished.edition
+
+    own_roots : lower ≡ map (lowered heap.edition) (map held roots)
+    own_roots = roots_are ∙ ap (λ (own : Edition). map (lowered own) (map held roots)) edition_is
+
+    same_faults : (now lower_now : List ℕ) → now ≡ bits → lower_now ≡ lower
+        → root_faults_by (or_immediate edition (leads now)) lower_now ≡ root_faults_by (or_immediate heap.edition (leads bits)) (map (lowered heap.edition) (map held roots))
+    same_faults now lower_now at at_lower =
+        ap (λ (own : Edition). root_faults_by (or_immediate own (leads now)) lower_now) edition_is
+        ∙ ap (λ (own : List ℕ). root_faults_by (or_immediate heap.edition (leads own)) lower_now) at
+        ∙ ap (root_faults_by (or_immediate heap.edition (leads bits))) (at_lower ∙ own_roots)
 
     -- if no lowered root has a fault, each root leads to an object
-    pub checked_lead : (now lower_now : List ℕ) → now ≡ bits → lower_now ≡ lower → root_faults_by (leads now) lower_now ≡ [] → All (LeadsToObject u journals) roots
-    checked_lead now lower_now at at_lower none =
-        roots_lead u journals e.closed e.finished.history.merges words bits moved_all roots (sym (same_faults now lower_now at at_lower) ∙ none)
+    pub checked_lead : (now lower_now : List ℕ) → now ≡ bits → lower_now ≡ lower → Fits u roots → root_faults_by (or_immediate edition (leads now)) lower_now ≡ [] → All (LeadsToObject u journals) roots
+    checked_lead now lower_now at at_lower fit none =
+        roots_lead u journals e.closed e.finished.history.merges words bits moved_all fit.few_words roots (sym (same_faults now lower_now at at_lower) ∙ none)
 
-    pub refused_root : (now lower_now : List ℕ) (fault : LayoutFault) → now ≡ bits → lower_now ≡ lower → Fits u roots → IsFirst (root_faults_by (leads now) lower_now) fault
+    pub refused_root : (now lower_now : List ℕ) (fault : LayoutFault) → now ≡ bits → lower_now ≡ lower → Fits u roots → IsFirst (root_faults_by (or_immediate edition (leads now)) lower_now) fault
         → IsRefusedWith u journals roots fault
     refused_root now lower_now fault at at_lower fit first =
-        let found = first_bad u journals e.closed e.finished.history.merges words bits moved_all roots fault
+        let found = first_bad u journals e.closed e.finished.history.merges words bits moved_all fit.few_words roots fault
         (subst (λ (list : List LayoutFault). IsFirst list fault) (same_faults now lower_now at at_lower) first) in
         subst (IsRefusedWith u journals roots) (sym found.1) (fit, found.2)
 
@@ -179,7 +190,7 @@ module _ (heap : Heap) (f : Finished) (e : IsEndOf heap f) (roots : List ℕ) (e
         → RefusesFor (size_faults edition (length now) 0 (length lower_now) ++ flat_map (object_faults edition now) (starts edition now)) fault → IsRefusedWith u journals roots fault
     refused_marks now lower_now fault at at_lower fit refuses =
         let long : length now ≡ 64 * pages u = ap length at ∙ moved_all.long in
-        let roots_long : length lower_now ≡ length roots = ap length (at_lower ∙ roots_are) ∙ length-map (map held roots) lowered ∙ length-map roots held in
+        let roots_long : length lower_now ≡ length roots = ap length (at_lower ∙ roots_are) ∙ length-map (map held roots) (lowered edition) ∙ length-map roots held in
         let few : size_faults edition (length now) 0 (length lower_now) ≡ [] =
         rw (same ∙ e.finished.edition, long, roots_long) (sizes-none heap.edition (64 * pages u) 0 (length roots) fit.few_words (omega arith) fit.few_roots) in
         let row : flat_map (object_faults edition now) (starts edition now) ≡ [] = rw at row_none in

@@ -12,7 +12,7 @@ pub record Fits (u : Setup) (roots : List ℕ) : Type 0 where
   pub few_words : 64 * pages u ≤ most_words u.heap.edition
   pub few_roots : length roots ≤ most_roots u.heap.edition
 
--- root k is the first that is neither null nor the start of an object that slid or was made
+-- root k is the first that is neither null, nor an immediate, nor the start of an object that slid or was made
 pub record IsFirstBad (u : Setup) (journals : Journals) (roots : List ℕ) (k : ℕ) : Type 0 where
   pub inside : k < length roots
   pub bad : LeadsToObject u journals (slice_index roots k) → ⊥

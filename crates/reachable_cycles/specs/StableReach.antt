@@ -1,6 +1,7 @@
--- Which objects of the stable heap its roots reach. A root is the number of an object, or 0.
-use Rattle.std.specs.Prelude.{◌≡◌, ◌↔◌, ℕ, ◌+◌, ◌<◌, ◌≤◌, List, [], ◌∷◌, ◌++◌, slice_index}
+-- Which objects of the stable heap its roots reach. A root is the number of an object, or 0, or in edition four an immediate.
+use Rattle.std.specs.Prelude.{◌≡◌, ◌↔◌, ℕ, ◌+◌, ◌<◌, ◌≤◌, false, List, [], ◌∷◌, ◌++◌, slice_index}
 use Rattle.heap_layout.specs.Header.{refs_of}
+use Rattle.heap_layout.specs.Values.{is_immediate}
 use Rattle.comp_history.specs.OneThread.{first_heap}
 use Rattle.comp_cycles.specs.Cycles.{Cycle, entries_of, heap_after, names_of, rooted}
 use Rattle.comp_cycles.specs.Numbered.{numbered}
@@ -14,10 +15,10 @@ pub record LeadsTo (stable : StableHeap) (m n : ℕ) : Type 0 where
   pub value : slice_index (stable.words m) (1 + field) ≡ n
 
 -- The roots reach an object: its number is a root, or a reference of an object that they reach leads to it. Weak words
--- reach nothing.
+-- and immediates reach nothing.
 pub data IsReachableIn (stable : StableHeap) (roots : List ℕ) : ℕ → Type 0 where
-  by_root : (n : ℕ) → 1 ≤ n → IsAmong roots n → IsReachableIn stable roots n
-  by_reference : (m n : ℕ) → IsReachableIn stable roots m → 1 ≤ n → LeadsTo stable m n → IsReachableIn stable roots n
+  by_root : (n : ℕ) → 1 ≤ n → is_immediate stable.edition n ≡ false → IsAmong roots n → IsReachableIn stable roots n
+  by_reference : (m n : ℕ) → IsReachableIn stable roots m → 1 ≤ n → is_immediate stable.edition n ≡ false → LeadsTo stable m n → IsReachableIn stable roots n
 
 -- these are the objects that the roots of the stable heap reach
 abbrev pub KeepsExactly : StableHeap → List ℕ → Type 0

@@ -2,7 +2,7 @@
 ghost use Rattle.std.specs.Prelude.{◌≡◌, ℕ, IfErr, IfOk, List};
 ghost use Rattle.heap_layout.specs.Faults.{IsAccepted};
 ghost use Rattle.heap_layout.specs.Heap.{IsStored};
-ghost use Rattle.comp_cycles.specs.Cycles.{heap_after, IsChapter, IsCycleOf, numbers_after};
+ghost use Rattle.comp_cycles.specs.Cycles.{given_after, heap_after, AreApart, IsChapter, IsCycleOf, numbers_after};
 ghost use Rattle.comp_cycles.specs.Ends.{cycle_of, cycle_with, setup_in, IsEndOf};
 ghost use Rattle.comp_cycles.specs.Finishes.{journals_of};
 ghost use Rattle.comp_cycles.specs.Numbered.{IsNumberedAs};
@@ -37,6 +37,7 @@ pub fn next_reachable<B: Builder>(
     ensures chapter { IfOk result (λ heap. (numbers : List ℕ) (stable : StableHeap) → IsNumberedAs (B.heap builder.now) numbers stable
         → IsChapter (cycle_of (B.heap builder.now) finished heap.marks) numbers stable) }
     ensures keeps { IfOk result (λ heap. (numbers : List ℕ) (stable : StableHeap) → IsNumberedAs (B.heap builder.now) numbers stable
+        → AreApart (setup_in (B.heap builder.now) finished).heap.edition (given_after (cycle_of (B.heap builder.now) finished heap.marks) stable.given)
         → KeepsExactly (written (cycle_of (B.heap builder.now) finished heap.marks) numbers stable) (numbers_after (cycle_of (B.heap builder.now) finished heap.marks) numbers stable.given)) }
     ensures refused { IfErr result (λ left. IsRefusedNext (setup_in (B.heap builder.now) finished) left.fault) }
     ensures back { IfErr result (λ left. left.finished ≡ finished) }
@@ -50,11 +51,11 @@ pub fn next_reachable<B: Builder>(
 }
 
 /// As `next_reachable`, with other roots: those of the next heap are `roots`. Each is a to-space address, the start of
-/// an object that slid or was made, or null. A mutator's stack and registers at the end of the cycle are such roots.
+/// an object that slid or was made, or null, or in edition four an immediate. A mutator's stack and registers at the end of the cycle are such roots.
 /// What only the roots of before reach is dropped.
 ///
 /// Refusals, in this order: `TooLarge` if the next heap would have more words or more roots than its edition allows;
-/// `BadRoot(k)` for the first root that is neither null nor the start of an object. `OutOfMemory` may replace any other
+/// `BadRoot(k)` for the first root that is neither null, nor an immediate, nor the start of an object. `OutOfMemory` may replace any other
 /// answer but `TooLarge`. After a refusal the finished heap is handed back unchanged.
 pub fn next_reachable_with<B: Builder>(
     finished: Finished,
@@ -71,6 +72,7 @@ pub fn next_reachable_with<B: Builder>(
     ensures chapter { IfOk result (λ heap. (numbers : List ℕ) (stable : StableHeap) → IsNumberedAs (B.heap builder.now) numbers stable
         → IsChapter (cycle_with (B.heap builder.now) finished roots.now heap.marks) numbers stable) }
     ensures keeps { IfOk result (λ heap. (numbers : List ℕ) (stable : StableHeap) → IsNumberedAs (B.heap builder.now) numbers stable
+        → AreApart (setup_in (B.heap builder.now) finished).heap.edition (given_after (cycle_with (B.heap builder.now) finished roots.now heap.marks) stable.given)
         → KeepsExactly (written (cycle_with (B.heap builder.now) finished roots.now heap.marks) numbers stable) (numbers_after (cycle_with (B.heap builder.now) finished roots.now heap.marks) numbers stable.given)) }
     ensures refused { IfErr result (λ left. IsRefusedWith (setup_in (B.heap builder.now) finished) (journals_of finished) roots.now left.fault) }
     ensures back { IfErr result (λ left. left.finished ≡ finished) }

@@ -47,7 +47,7 @@ fn header(edition: Edition, refs: u16, weak: u16, data_words: u16, tag: u16) -> 
     match edition {
         Edition::One => Header::new(refs, data_words, u32::from(tag)),
         Edition::Two => Header::new_weak(refs, weak, data_words, tag),
-        Edition::Three => Header::new_mixed(refs, weak, data_words, tag % 16_384),
+        Edition::Three | Edition::Four => Header::new_mixed(refs, weak, data_words, tag % 16_384),
     }
 }
 
@@ -68,7 +68,7 @@ fn opening(alloc: Global, edition: Edition) -> Result<Life, AllocError> {
             plain(alloc, first, &[2, 0, 10], 0)?,
             plain(alloc, second, &[1, 20], 4)?,
         ]?,
-        Edition::Two | Edition::Three => vec![in alloc;
+        Edition::Two | Edition::Three | Edition::Four => vec![in alloc;
             plain(alloc, first, &[2, 0, 1, 10], 0)?,
             plain(alloc, second, &[1, 2, 20], 5)?,
         ]?,
@@ -92,7 +92,7 @@ pub fn opening_heap(rt: &impl Abort, alloc: Global, edition: Edition) -> MarkedH
             let words = [first, F + 4, 0, 10, second, F, 20];
             heap_of(alloc, edition, &words, &[0, 4], &[F, 0, F + 4])
         }
-        Edition::Two | Edition::Three => {
+        Edition::Two | Edition::Three | Edition::Four => {
             let words = [first, F + 5, 0, F, 10, second, F, F + 5, 20];
             heap_of(alloc, edition, &words, &[0, 5], &[F, 0, F + 5])
         }
@@ -145,7 +145,7 @@ impl Chain {
     fn field(&self, random: &mut Random) -> (u16, Field, &'static str) {
         let number = random.small(3);
         match self.life.edition {
-            Edition::Two | Edition::Three if random.below(2) == 0 => {
+            Edition::Two | Edition::Three | Edition::Four if random.below(2) == 0 => {
                 (number, Field::Weak(number), "w")
             }
             _ => (number, Field::Reference(number), ""),
@@ -204,14 +204,14 @@ impl Chain {
         let (refs, data, tag) = (random.small(4), random.small(20), random.small(100));
         let weak = match self.life.edition {
             Edition::One => 0,
-            Edition::Two | Edition::Three => random.small(3),
+            Edition::Two | Edition::Three | Edition::Four => random.small(3),
         };
         let asked = header(self.life.edition, refs, weak, data, tag);
         if let Some(number) = self.life.add(alloc, by, asked)? {
             self.hold(to, number);
             match self.life.edition {
                 Edition::One => write!(self.text, "{by} new {to} {refs} {data} {tag}\n")?,
-                Edition::Two | Edition::Three => {
+                Edition::Two | Edition::Three | Edition::Four => {
                     write!(self.text, "{by} wnew {to} {refs} {weak} {data} {tag}\n")?
                 }
             }

@@ -92,8 +92,9 @@ fn no_changed_byte_of_edition_two_leaves_a_lawful_dump(rt: HostRuntime) {
 
 // What is otherwise in edition three: edition two is another edition, and the last two bits of the new object's header
 // are its form. In each other form the object has two fields, of which the first is no weak word.
-static RULES_OF_THREE: [Rule; 2] = [
+static RULES_OF_THREE: [Rule; 3] = [
     Rule(8, 8, 2, 2, Becomes::Is(WRONG_HEAD)),
+    Rule(8, 8, 4, 4, Becomes::Is(WRONG_HEAD)),
     Rule(1_107, 1_107, 64, 255, Becomes::Is(BAD_MADE)),
 ];
 

@@ -22,14 +22,15 @@ const MADE_KIND: usize = 1_117;
 const TOTAL: usize = 1_139;
 
 // For the compacted three objects in edition three. The new object has one weak word and tag 5.
-static THREE_FORGED: [JudgedDump; 28] = [
+static THREE_FORGED: [JudgedDump; 29] = [
     // No change but the version, and the other versions.
     JudgedDump(Whole::WeakLinked, &[THREE], YES),
     JudgedDump(Whole::WeakTouched, &[THREE], YES),
     JudgedDump(Whole::WeakLinked, &[], WRONG_HEAD),
     JudgedDump(Whole::WeakTouched, &[Change(VERSION, 4, 4, 1)], WRONG_HEAD),
     JudgedDump(Whole::WeakLinked, &[Change(VERSION, 4, 4, 1)], BAD_FIELD),
-    JudgedDump(Whole::WeakLinked, &[Change(VERSION, 4, 4, 4)], BAD_MAGIC),
+    JudgedDump(Whole::WeakLinked, &[Change(VERSION, 4, 4, 4)], WRONG_HEAD),
+    JudgedDump(Whole::WeakLinked, &[Change(VERSION, 4, 4, 5)], BAD_MAGIC),
     JudgedDump(
         Whole::WeakLinked,
         &[THREE, Change(ROOT, 8, 8, 0)],

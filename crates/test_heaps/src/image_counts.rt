@@ -17,13 +17,14 @@ const TRUNCATED: Option<LayoutFault> = Some(LayoutFault::Truncated);
 // The most words of edition three.
 const MOST: u32 = 2_147_483_648;
 
-static COUNTS: [ImageCounts; 26] = [
+static COUNTS: [ImageCounts; 27] = [
     // No words, marks and roots.
     ImageCounts(0, [0, 0, 0], BAD_MAGIC, BAD_MAGIC),
     ImageCounts(1, [0, 0, 0], None, None),
     ImageCounts(2, [0, 0, 0], None, None),
     ImageCounts(3, [0, 0, 0], BAD_MAGIC, None),
-    ImageCounts(4, [0, 0, 0], BAD_MAGIC, BAD_MAGIC),
+    ImageCounts(4, [0, 0, 0], BAD_MAGIC, None),
+    ImageCounts(5, [0, 0, 0], BAD_MAGIC, BAD_MAGIC),
     ImageCounts(u32::MAX, [0, 0, 0], BAD_MAGIC, BAD_MAGIC),
     // Editions one and two.
     ImageCounts(1, [1_048_577, 0, 0], TOO_LARGE, TOO_LARGE),

@@ -7,6 +7,8 @@ mod dumped;
 #[cfg(test)]
 mod expected;
 #[cfg(test)]
+mod immediates;
+#[cfg(test)]
 mod large;
 #[cfg(test)]
 mod pictures;

@@ -88,12 +88,12 @@ impl Drawn {
         let data_words = ((state >> 40) % 5) as u16;
         let weak = match self.edition {
             Edition::One => 0,
-            Edition::Two | Edition::Three => ((state >> 47) % 3) as u16,
+            Edition::Two | Edition::Three | Edition::Four => ((state >> 47) % 3) as u16,
         };
         let header = match self.edition {
             Edition::One => Header::new(refs, data_words, 7),
             Edition::Two => Header::new_weak(refs, weak, data_words, 7),
-            Edition::Three => Header::new_mixed(refs, weak, data_words, 7),
+            Edition::Three | Edition::Four => Header::new_mixed(refs, weak, data_words, 7),
         };
         self.words.push(header.word())?;
         for _ in 0..refs {

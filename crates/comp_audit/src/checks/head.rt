@@ -40,5 +40,6 @@ fn is_edition(edition: Edition, other: Edition) -> bool
         (Edition::One, Edition::One)
             | (Edition::Two, Edition::Two)
             | (Edition::Three, Edition::Three)
+            | (Edition::Four, Edition::Four)
     )
 }

@@ -1,4 +1,4 @@
-//! The eighth check: each reference and weak word that was written is null, or leads to an object that is older.
+//! The eighth check: each reference and weak word that was written is null or an immediate, or leads to an object that is older.
 ghost use Rattle.std.specs.Prelude.{◌≡◌, ℕ, List, ◌==◌, ◌++◌, not, Some};
 ghost use Rattle.comp_audit.specs.Checks.{is_led, late_faults, late_on, late_with, unless};
 ghost use Rattle.comp_audit.specs.Reported.{Reports};
@@ -22,7 +22,7 @@ pub struct Late {
     pub number: u64,
 }
 
-/// Checks that each reference and weak word that was written is null, or leads to a slid object, or to a new object
+/// Checks that each reference and weak word that was written is null or an immediate, or leads to a slid object, or to a new object
 /// whose header has a smaller stamp.
 pub fn check_late(plan: &Plan, starts: &Starts, records: &DumpedPages<'_>) -> Result<(), CheckEnd>
     ensures { Reports (late_faults (is_led plan.now (is_noted_before starts.now)) records.now) result }
@@ -88,7 +88,7 @@ fn is_led(plan: &Plan, starts: &Starts, entry: Entry) -> bool
     ensures { result ≡ is_led plan.now (is_noted_before starts.now) entry }
 {
     !entry.kind.refers()
-        || entry.value == 0
+        || plan.heap().edition().leads_nowhere(entry.value)
         || plan.is_start(entry.value)
         || starts.is_before(entry.value, entry.stamp)
 }

@@ -75,10 +75,11 @@ fn check_loose(
 ) -> Result<(), CheckEnd>
     requires inside { p < 2 ^ 26 }
     requires long { length words.now ≡ 64 }
-    ensures { Reports (loose_faults (λ offset. some_refers (slice_index_or kinds.now offset None)) (leads plan.now starts.now) p words.now) result }
+    ensures { Reports (loose_faults plan.now.edition (λ offset. some_refers (slice_index_or kinds.now offset None)) (leads plan.now starts.now) p words.now) result }
 {
+    let edition = plan.heap().edition();
     for (offset, &word) in words.iter().enumerate() {
-        if refers(kinds[offset]) && word != 0 && !starts.leads(plan, word) {
+        if refers(kinds[offset]) && !edition.leads_nowhere(word) && !starts.leads(plan, word) {
             let address = TO_SPACE + 64 * p + offset as u64;
             return Err(CheckEnd::Fault(AuditFault::LooseReference(address)));
         }

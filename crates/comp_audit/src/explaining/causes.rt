@@ -125,7 +125,10 @@ fn late(plan: &Plan, dump: &Dump<'_>, entry: Entry) -> Option<EntryCause>
     ensures some { IfSome result (IsLate plan.now dump.now entry) }
     ensures none { IfNone result (leads_back plan.now dump.now entry ≡ true) }
 {
-    if !entry.kind.refers() || entry.value == 0 || plan.is_start(entry.value) {
+    if !entry.kind.refers()
+        || plan.heap().edition().leads_nowhere(entry.value)
+        || plan.is_start(entry.value)
+    {
         return None;
     }
     match header_stamp(dump, entry.value) {

@@ -2,7 +2,7 @@
 ghost use Rattle.std.specs.Prelude.{◌≡◌, ◌≢◌, IfOk, length, map};
 ghost use Rattle.std.specs.Bool.{OnFalse, OnTrue};
 ghost use Rattle.heap_layout.specs.Heap.{Heap, live};
-ghost use Rattle.page_plan.specs.Sliding.{forwarded};
+ghost use Rattle.page_plan.specs.Sliding.{forwarded_value};
 ghost use Rattle.comp_dump.specs.Dumped.{Dumped};
 ghost use Rattle.comp_dump.specs.declared.fault.AuditFault.TheVariants as fault;
 ghost use Rattle.comp_audit.specs.Explained.{Explains, HasItsPages};
@@ -43,7 +43,7 @@ fn differ(one: Edition, other: Edition) -> bool
 // What is said of these roots, if the edition and the number of pages are right. `right` are the forwarded roots.
 fn explain_roots(roots: &[u64], right: &[u64]) -> Explanation
     ensures { (heap : Heap) (dump : Dumped) → HasItsPages heap dump → dump.roots ≡ roots.now
-        → right.now ≡ map (forwarded (live heap)) heap.roots → Explains heap dump fault.WrongHead result }
+        → right.now ≡ map (forwarded_value heap.edition (live heap)) heap.roots → Explains heap dump fault.WrongHead result }
 {
     if roots.len() != right.len() {
         return Explanation::WrongHead(HeadCause::Roots(roots.len() as u64, right.len() as u64));

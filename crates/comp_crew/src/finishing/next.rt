@@ -1,7 +1,7 @@
 ghost use Rattle.std.specs.Prelude.{◌≡◌, ℕ, IfErr, IfOk, List};
 ghost use Rattle.heap_layout.specs.Faults.{IsAccepted};
 ghost use Rattle.heap_layout.specs.Heap.{IsStored};
-ghost use Rattle.comp_cycles.specs.Cycles.{heap_after, IsChapter, IsCycleOf, numbers_after};
+ghost use Rattle.comp_cycles.specs.Cycles.{given_after, heap_after, AreApart, IsChapter, IsCycleOf, numbers_after};
 ghost use Rattle.comp_cycles.specs.Ends.{cycle_of, cycle_with, next_sizes, setup_in, IsRefusedFor, IsRefusedWithin};
 ghost use Rattle.comp_cycles.specs.Finishes.{journals_of, roots_of};
 ghost use Rattle.comp_cycles.specs.NextHeap.{next_faults};
@@ -68,8 +68,8 @@ impl Ended {
     /// object that a root reaches is kept, and each other one is dropped.
     ///
     /// Refusals, in this order: `TooLarge` if the next heap would have more words or more roots than its edition
-    /// allows; `BadRoot(k)` for the first root that is neither null nor the start of an object. `OutOfMemory` may
-    /// replace any other answer but `TooLarge`. After a refusal the end is handed back unchanged.
+    /// allows; `BadRoot(k)` for the first root that is neither null, nor an immediate of the edition, nor the start of
+    /// an object. `OutOfMemory` may replace any other answer but `TooLarge`. After a refusal the end is handed back unchanged.
     ///
     /// Requires what `finish` ensures.
     pub fn next_reached(self, alloc: Global, roots: &[u64]) -> Result<MarkedHeap, NotFollowed>
@@ -82,6 +82,7 @@ impl Ended {
         ensures chapter { IfOk result (λ heap. (numbers : List ℕ) (stable : StableHeap) → IsNumberedAs (heap_of self) numbers stable
             → IsChapter (cycle_with (heap_of self) (finished_of self) roots.now heap.marks) numbers stable) }
         ensures keeps { IfOk result (λ heap. (numbers : List ℕ) (stable : StableHeap) → IsNumberedAs (heap_of self) numbers stable
+            → AreApart (heap_of self).edition (given_after (cycle_with (heap_of self) (finished_of self) roots.now heap.marks) stable.given)
             → KeepsExactly (written (cycle_with (heap_of self) (finished_of self) roots.now heap.marks) numbers stable) (numbers_after (cycle_with (heap_of self) (finished_of self) roots.now heap.marks) numbers stable.given)) }
         ensures refused { IfErr result (λ left. IsRefusedWith (setup_in (heap_of self) (finished_of self)) (journals_of (finished_of self)) roots.now left.fault) }
         ensures back { IfErr result (λ left. left.ended ≡ self) }

@@ -2,7 +2,7 @@
 ghost use Rattle.std.specs.Prelude.{◌≡◌, ◌<◌, Some, true, length, slice_index};
 ghost use Rattle.heap_layout.specs.Kinds.{refers};
 ghost use Rattle.heap_layout.specs.Heap.{live};
-ghost use Rattle.comp_mutator.specs.Sliding.{forward};
+ghost use Rattle.comp_mutator.specs.Sliding.{forward_value};
 ghost use Rattle.comp_mutator.specs.Mutators.{setup_of};
 ghost use Rattle.comp_trace.specs.Builds.{kind_if};
 
@@ -21,7 +21,7 @@ pub(crate) fn held(registers: &[u64; 16], register: u8) -> u64
 /// The forwarded root of this number. Requires that the heap has it.
 pub(crate) fn root_at<L: Ledger, B: Builder>(space: &Space<L, B>, root: u32) -> u64
     requires { root < length (setup_of space.now).heap.roots }
-    ensures { forward (live (setup_of space.now).heap) (slice_index (setup_of space.now).heap.roots root) ≡ Some result }
+    ensures { forward_value (setup_of space.now).heap.edition (live (setup_of space.now).heap) (slice_index (setup_of space.now).heap.roots root) ≡ Some result }
 {
     space.roots()[root as usize]
 }

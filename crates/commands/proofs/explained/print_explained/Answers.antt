@@ -19,4 +19,5 @@ returns-clause-output g c =
       counts = left.counts;
       same_writer = left.same_writer;
       printed = compared_left disk asked c.requires.explained c.in_ok-compared.compared _ _ c.print_compared.result c.in_ok-compared.ensures.compared c.print_compared.ensures.cause;
+      sent = left.sent;
     }

@@ -31,4 +31,5 @@ returns-clause-output g c =
       counts = halt_counted shown (failures_of c.args.out.now) (failures_of c.send_shown.new.out) c.args.refusal sent.output.counts c.requires.halted;
       same_writer = sent.output.same_writer;
       printed = halt_unprinted before after shown sent.printed c.args.refusal c.requires.halted;
+      sent = λ other flushed. sent.flushed;
     }

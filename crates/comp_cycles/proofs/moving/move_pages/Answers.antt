@@ -7,7 +7,7 @@ pub loop-p-preserved : goal.loop-p-preserved
 loop-p-preserved g c =
     let i = c.loop-p.invariant in
     record {
-      moved = c.add_page.ensures.moved (setup_in (g.B.Builder.heap c.args.builder.now) c.args.finished.now) (journals_of c.args.finished.now) c.loop-p.p i.moved
+      moved = c.add_page.ensures.moved (setup_in (g.B.Builder.heap c.args.builder.now) c.args.finished.now) (journals_of c.args.finished.now) c.loop-p.p i.moved (c.edition.ensures ∙ c.requires.of.finished.edition)
           c.in_ok-kinds.ensures (λ o lt. ap (λ (l : List ℕ). get_or l o 0) c.in_ok-page.ensures);
       len = omega (arith, c.add_page.ensures.len, i.len);
       capacity = omega (arith, c.add_page.ensures.capacity, i.capacity);

@@ -9,7 +9,7 @@ use Rattle.byteorder.specs.Endian.{little_number}
 use Rattle.heap_layout.specs.Encoding.{magic, four_bytes, version}
 use Rattle.heap_layout.specs.Versions.{version_of, IsRead}
 use Rattle.heap_layout.specs.declared.edition.Edition.{Edition}
-use Rattle.heap_layout.specs.declared.edition.Edition.TheVariants.{One, Two, Three}
+use Rattle.heap_layout.specs.declared.edition.Edition.TheVariants.{One, Two, Three, Four}
 use Rattle.heap_layout.proofs.Numbers.{four_bytes-read}
 use Rattle.heap_layout.proofs.Reading.{cut_in_magic, cut_in_version, other_magic, other_version, handed_on, failure_handed_on}
 use Rattle.heap_layout.proofs.image.read_magic.Goals as goal
@@ -48,6 +48,7 @@ not_version : (large : Bool) (bytes : List ℕ) (n : ℕ) → n ≡ little_numbe
 not_version large bytes n read none One known is = none One known (sym (read ∙ ap (little_number 4) is))
 not_version large bytes n read none Two known is = none Two known (sym (read ∙ ap (little_number 4) is))
 not_version large bytes n read none Three known is = none Three known (sym (read ∙ ap (little_number 4) is))
+not_version large bytes n read none Four known is = none Four known (sym (read ∙ ap (little_number 4) is))
 
 pub returns-in-Some-clause-read : goal.returns-in-Some-clause-read
 returns-in-Some-clause-read g c =

@@ -1,7 +1,7 @@
 use Rattle.std.proofs.Common.{◌≡◌, ℕ, ◌+◌, ◌<◌, Option, Some, List, [], ◌∷◌, ◌++◌, length, get_or, map, take, ap, ◌∙◌}
 use Rattle.std.proofs.lemmas.List.{map-append, take_all, take_more}
 use Rattle.heap_layout.specs.Heap.{live}
-use Rattle.page_plan.specs.Sliding.{forward}
+use Rattle.page_plan.specs.Sliding.{forward_value}
 use Rattle.page_plan.proofs.forwarding.forward_all.Goals as goal
 
 -- one reference more
@@ -14,9 +14,9 @@ pub loop-reference-preserved : goal.loop-reference-preserved
 loop-reference-preserved c =
     let loop = c.loop-reference in
     rw c.in_ok-push.ensures.items
-    (led-next (forward (live c.args.plan.now)) c.args.references.now loop.addresses.items loop.reference-index c.forward_word.result c.loop-reference-test.true loop.invariant c.forward_word.ensures)
+    (led-next (forward_value c.args.plan.now.edition (live c.args.plan.now)) c.args.references.now loop.addresses.items loop.reference-index c.forward_word.result c.loop-reference-test.true loop.invariant c.forward_word.ensures)
 
 pub returns : goal.returns
 returns c =
     let all : take c.loop-reference.reference-index c.args.references.now ≡ c.args.references.now = take_all _ _ c.loop-reference-test.false in
-    c.loop-reference.invariant ∙ ap (map (forward (live c.args.plan.now))) all
+    c.loop-reference.invariant ∙ ap (map (forward_value c.args.plan.now.edition (live c.args.plan.now))) all

@@ -2,7 +2,7 @@ use Rattle.std.proofs.Common.{◌≡◌, ◌+◌, ◌-◌, ℕ, List, slice_inde
 use Rattle.heap_layout.specs.Header.{refs_of}
 use Rattle.heap_layout.specs.Heap.{header_at, live, IsClosed}
 use Rattle.heap_layout.specs.declared.kind.Kind.TheVariants.{Weak}
-use Rattle.page_plan.specs.Sliding.{forwarded}
+use Rattle.page_plan.specs.Sliding.{forwarded_value}
 use Rattle.page_plan.proofs.Objects.{word-led}
 use Rattle.page_plan.proofs.page_builder.weak_word_at.Goals as goal
 
@@ -17,4 +17,4 @@ returns c =
     let refs = refs_of (header_at heap.edition heap.words (slice_index heap.marks cursor.number)) in
     let led = word-led heap closed cursor.number cursor.within c.args.start cursor.new_index Weak c.requires.known c.requires.start
     (c.requires.at.at c.requires.known) (cursor.within - (1 + refs), omega (arith, after), omega (arith, after, ends, c.requires.before)) refl in
-    c.forward_weak_word.ensures ∙ ap (λ (ws : List ℕ). forwarded (live heap) (slice_index ws (c.args.start + cursor.within))) words ∙ sym led
+    c.forward_weak_word.ensures ∙ ap (λ (ws : List ℕ). forwarded_value heap.edition (live heap) (slice_index ws (c.args.start + cursor.within))) words ∙ sym led

@@ -50,9 +50,14 @@ returns-clause-fits g c =
 
 pub returns-clause-lead : goal.returns-clause-lead
 returns-clause-lead g c =
+    let heap = g.B.Builder.heap c.args.builder.now in
+    let f = c.args.finished.now in
+    let roots = c.args.roots.now in
+    let sizes = sizes_are heap f c.edition-edition.result c.len-words.result (length roots) c.requires c.edition-edition.ensures (c.len-words.ensures.count ∙ ap length c.pages.ensures) in
+    let fit = fits (setup_in heap f) (journals_of f) roots (sym sizes ∙ c.in_ok-check_sizes.ensures) in
     checked_lead (g.B.Builder.heap c.args.builder.now) c.args.finished.now c.requires c.args.roots.now c.edition-edition.result c.in-Ok.moved.words.items c.in-Ok.moved.starts.items
     c.in-Ok-lowered_roots.lowered.items c.edition-edition.ensures c.in-Ok.ensures.moved c.in-Ok-lowered_roots.ensures c.deref.result.now c.deref-2.result.now c.deref.ensures.value c.deref-2.ensures.value
-    c.in_ok-check_roots.ensures
+    fit c.in_ok-check_roots.ensures
 
 pub returns-clause-reachable : goal.returns-clause-reachable
 returns-clause-reachable g c =
@@ -63,7 +68,9 @@ returns-clause-reachable g c =
     let words = c.in-Ok.moved.words.items in
     let bits = c.in-Ok.moved.starts.items in
     let lower = c.in-Ok-lowered_roots.lowered.items in
+    let sizes = sizes_are heap f edition c.len-words.result (length roots) c.requires c.edition-edition.ensures (c.len-words.ensures.count ∙ ap length c.pages.ensures) in
+    let fit = fits (setup_in heap f) (journals_of f) roots (sym sizes ∙ c.in_ok-check_sizes.ensures) in
     let lead = checked_lead heap f c.requires roots edition words bits lower c.edition-edition.ensures c.in-Ok.ensures.moved c.in-Ok-lowered_roots.ensures c.deref.result.now c.deref-2.result.now
-    c.deref.ensures.value c.deref-2.ensures.value c.in_ok-check_roots.ensures in
+    c.deref.ensures.value c.deref-2.ensures.value fit c.in_ok-check_roots.ensures in
     moved_reachable heap f c.requires roots edition words bits lower c.edition-edition.ensures c.in-Ok.ensures.moved c.in-Ok-lowered_roots.ensures c.deref-3.result.now c.deref-4.result.now
     c.in_ok-marks.marks.items c.deref-3.ensures.value c.deref-4.ensures.value lead c.in_ok-marks.ensures.reachable

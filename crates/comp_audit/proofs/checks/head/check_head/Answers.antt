@@ -3,7 +3,7 @@ use Rattle.std.specs.Prelude.{bytes_eq}
 use Rattle.std.proofs.lemmas.Bool.{not-true, not-false, eq-eqb}
 use Rattle.heap_layout.specs.Heap.{Heap, live}
 use Rattle.heap_layout.specs.declared.edition.Edition.{Edition}
-use Rattle.page_plan.specs.Sliding.{forward, forwarded}
+use Rattle.page_plan.specs.Sliding.{forward_value, forwarded_value}
 use Rattle.comp_history.specs.Setup.{pages}
 use Rattle.comp_audit.specs.Checks.{is_edition}
 use Rattle.comp_audit.specs.Noted.{setup_at}
@@ -15,14 +15,14 @@ use Rattle.comp_audit.proofs.checks.head.check_head.Goals as goal
 pub returns-then-ne-clause-reported : goal.returns-then-ne-clause-reported
 returns-then-ne-clause-reported c =
     let heap = c.args.setting.plan.now in
-    let right : c.in_ok-forwarded.forwarded.items ≡ map (forwarded (live heap)) heap.roots = are_forwarded (forward (live heap)) _ _ c.in_ok-forwarded.ensures in
+    let right : c.in_ok-forwarded.forwarded.items ≡ map (forwarded_value heap.edition (live heap)) heap.roots = are_forwarded (forward_value heap.edition (live heap)) _ _ c.in_ok-forwarded.ensures in
     let there = ap (λ (l : List ℕ). bytes_eq l c.as_slice.result.now) c.roots.ensures ∙ ap (bytes_eq c.args.setting.dump.now.roots) (c.as_slice.ensures.value ∙ right) in
     second_fails _ _ _ (and_false _ _ (sym there ∙ not-true _ (sym c.ne.ensures ∙ c.if-ne.true)))
 
 pub returns-clause-reported : goal.returns-clause-reported
 returns-clause-reported c =
     let heap = c.args.setting.plan.now in
-    let right : c.in_ok-forwarded.forwarded.items ≡ map (forwarded (live heap)) heap.roots = are_forwarded (forward (live heap)) _ _ c.in_ok-forwarded.ensures in
+    let right : c.in_ok-forwarded.forwarded.items ≡ map (forwarded_value heap.edition (live heap)) heap.roots = are_forwarded (forward_value heap.edition (live heap)) _ _ c.in_ok-forwarded.ensures in
     let there = ap (λ (l : List ℕ). bytes_eq l c.as_slice.result.now) c.roots.ensures ∙ ap (bytes_eq c.args.setting.dump.now.roots) (c.as_slice.ensures.value ∙ right) in
     let one : is_edition c.args.setting.dump.now.edition heap.edition ≡ true =
     ap (λ (e : Edition). is_edition e heap.edition) (sym c.edition.ensures)

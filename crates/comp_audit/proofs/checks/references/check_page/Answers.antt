@@ -1,6 +1,7 @@
-use Rattle.std.proofs.Common.{◌≡◌, ◌≤◌, ◌∙◌, ◌==◌, ◌||◌, ℕ, Option, List, [], length, not, refl, sym, ap, subst, arith, None}
+use Rattle.std.proofs.Common.{◌≡◌, ◌≤◌, ◌∙◌, ◌||◌, ℕ, Option, List, [], length, not, refl, sym, ap, subst, arith, None}
 use Rattle.std.specs.Prelude.{slice_index_or}
 use Rattle.std.proofs.lemmas.Bool.{eqb-true}
+use Rattle.heap_layout.specs.Values.{leads_nowhere}
 use Rattle.heap_layout.specs.declared.kind.Kind.{Kind}
 use Rattle.comp_journal.specs.declared.entry.Entry.{Entry}
 use Rattle.comp_history.specs.Lawful.{filled, kind_at}
@@ -25,13 +26,13 @@ returns c =
     let u = setup_at c.args.setting in
     let page = c.args.page.now in
     let leading = leads c.args.setting.plan.now c.args.starts.now in
-    let test = λ (o : Option Kind) (word : ℕ × ℕ). unless (not (some_refers o) || (word.1 == 0) || leading word.1) (LooseReference (address c.args.p word.0)) in
+    let test = λ (o : Option Kind) (word : ℕ × ℕ). unless (not (some_refers o) || leads_nowhere u.heap.edition word.1 || leading word.1) (LooseReference (address c.args.p word.0)) in
     let words : c.words.result ≡ page.words = c.words.ensures in
-    let same : loose_faults (λ offset. some_refers (slice_index_or c.in_ok-kinds.kinds offset None)) leading c.args.p page.words ≡ reference_faults leading u c.args.p page =
+    let same : loose_faults u.heap.edition (λ offset. some_refers (slice_index_or c.in_ok-kinds.kinds offset None)) leading c.args.p page.words ≡ reference_faults leading u c.args.p page =
     same_items (λ (word : ℕ × ℕ). test (slice_index_or c.in_ok-kinds.kinds word.0 None) word) (λ (word : ℕ × ℕ). test (kind_at u c.args.p page.journal word.0) word) 0 page.words
     (λ k x lt. ap (λ (o : Option Kind). test o (k, x)) (c.in_ok-kinds.ensures u refl refl k (omega (arith, lt, c.requires.stored.long)) ∙ ap (λ (j : List _). kind_at u c.args.p j k) c.journal-journal.ensures)) in
     subst (λ (l : List AuditFault). Reports l c.check_loose.result) same
-    (subst (λ (ys : List ℕ). Reports (loose_faults (λ offset. some_refers (slice_index_or c.in_ok-kinds.kinds offset None)) leading c.args.p ys) c.check_loose.result) words
+    (subst (λ (ys : List ℕ). Reports (loose_faults u.heap.edition (λ offset. some_refers (slice_index_or c.in_ok-kinds.kinds offset None)) leading c.args.p ys) c.check_loose.result) words
     c.check_loose.ensures)
 
 pub returns-then-is_empty : goal.returns-then-is_empty
