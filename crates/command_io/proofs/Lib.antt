@@ -6,3 +6,4 @@ pub mod Unread
 pub mod Imaged
 pub mod Printings
 pub mod Opened
+pub mod Begun

@@ -10,7 +10,7 @@ use Rattle.command_io.specs.Images.{RefusesAt}
 use Rattle.command_io.specs.declared.refusal.Output.TheVariants as outputs
 use Rattle.command_io.specs.declared.refusal.CommandRefusal.{CommandRefusal}
 use Rattle.command_io.specs.declared.refusal.CommandRefusal.TheVariants.{Layout, OutOfMemory}
-use Rattle.commands.specs.Compact.{PrintsLive}
+use Rattle.commands.specs.Compact.{live_line, PrintsLive}
 use Rattle.commands.specs.Nexts.{IsOfWritingNext}
 
 -- the same parts with other marks
@@ -49,7 +49,7 @@ RefusesMarking disk large image refusal = RefusesAt disk large image RefusesImag
 
 -- why the command is refused: there is no marked heap, and the files stayed as they were; or there is, and it was not
 -- written, or its line not printed
-abbrev pub RefusesMark : {F W : Type 0} → Disk F W → Bool → List ℕ → List ℕ → F → F → CommandRefusal → Type 0
-RefusesMark disk large image new from to refusal =
+abbrev pub RefusesMark : {F W : Type 0} → Disk F W → Bool → List ℕ → List ℕ → F → F → Option (List ℕ) → Option (List ℕ) → CommandRefusal → Type 0
+RefusesMark disk large image new from to before after refusal =
     ((to ≡ from) × RefusesMarking disk large image refusal)
-    ⊎ SomePartsAt disk large image (λ parts. (heap : Heap) × IsMarkedHeap parts heap × IsOfWritingNext disk new (encoding heap) to refusal)
+    ⊎ SomePartsAt disk large image (λ parts. (heap : Heap) × IsMarkedHeap parts heap × IsOfWritingNext disk new (encoding heap) to before after (live_line heap) refusal)

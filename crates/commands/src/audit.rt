@@ -34,7 +34,7 @@ pub fn print_audit<F: Files, O: Write>(
 ) -> Result<(), CommandRefusal>
     requires written { failures_of out.old < 2 ^ 64 - 1 }
     ensures passed { OnOk result (SomeAudit (F.disk files.now) (audit_of run.entry) (Passes (audit_of run.entry) (O.contents (inner_of out.old).now) (O.contents (inner_of out.new).now))) }
-    ensures cause { IfErr result (RefusesAudit (F.disk files.now) (audit_of run.entry)) }
+    ensures cause { IfErr result (RefusesAudit (F.disk files.now) (audit_of run.entry) (O.contents (inner_of out.old).now) (O.contents (inner_of out.new).now)) }
     ensures output { LeavesOutput (LeavesUnexplained (F.disk files.now) (audit_of run.entry)) O.contents out.old out.new result }
 {
     if run.explain {
@@ -56,7 +56,7 @@ fn print_plain<F: Files, O: Write>(
     requires plain { run.now.explain ≡ false }
     requires written { failures_of out.old < 2 ^ 64 - 1 }
     ensures passed { OnOk result (SomeAudit (F.disk files.now) (audit_of run.now) (Passes (audit_of run.now) (O.contents (inner_of out.old).now) (O.contents (inner_of out.new).now))) }
-    ensures cause { IfErr result (RefusesAudit (F.disk files.now) (audit_of run.now)) }
+    ensures cause { IfErr result (RefusesAudit (F.disk files.now) (audit_of run.now) (O.contents (inner_of out.old).now) (O.contents (inner_of out.new).now)) }
     ensures output { LeavesOutput (LeavesUnexplained (F.disk files.now) (audit_of run.now)) O.contents out.old out.new result }
 {
     let words = audited_words(alloc, rt, files, run)?;

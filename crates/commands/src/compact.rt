@@ -45,7 +45,7 @@ pub fn print_compact<R: Threads + Wait + Sync, F: Files, O: Write>(
     requires workers { (1 ≤ workers) × (workers ≤ 64) }
     requires written { failures_of out.old < 2 ^ 64 - 1 }
     ensures compacted { OnOk result (SomeHeapAt (F.disk files.old) large image.now (Compacts (F.disk files.old) dump.now workers files.new (O.contents (inner_of out.old).now) (O.contents (inner_of out.new).now))) }
-    ensures cause { IfErr result (RefusesAt (F.disk files.old) large image.now (RefusesCompact (F.disk files.old) dump.now workers files.new)) }
+    ensures cause { IfErr result (RefusesAt (F.disk files.old) large image.now (RefusesCompact (F.disk files.old) dump.now workers files.new (O.contents (inner_of out.old).now) (O.contents (inner_of out.new).now))) }
     ensures uncreated { RefusedUncreated (F.disk files.old) files.old files.new result }
     ensures output { LeavesOutput RefusedUnprinted O.contents out.old out.new result }
 {

@@ -65,7 +65,7 @@ pub(crate) fn print_explained<F: Files, O: Write>(
     requires explained { run.now.explain ≡ true }
     requires written { failures_of out.old < 2 ^ 64 - 1 }
     ensures passed { OnOk result (SomeAudit (F.disk files.now) (audit_of run.now) (Passes (audit_of run.now) (O.contents (inner_of out.old).now) (O.contents (inner_of out.new).now))) }
-    ensures cause { IfErr result (RefusesAudit (F.disk files.now) (audit_of run.now)) }
+    ensures cause { IfErr result (RefusesAudit (F.disk files.now) (audit_of run.now) (O.contents (inner_of out.old).now) (O.contents (inner_of out.new).now)) }
     ensures output { LeavesOutput (LeavesUnexplained (F.disk files.now) (audit_of run.now)) O.contents out.old out.new result }
 {
     let compared = compared_at(alloc, rt, files, run)?;

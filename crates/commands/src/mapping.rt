@@ -71,7 +71,7 @@ pub fn print_map<F: Files, O: Write>(
 ) -> Result<(), CommandRefusal>
     requires { failures_of out.old < 2 ^ 64 - 1 }
     ensures mapped { OnOk result (SomeMap (F.disk files.old) (map_of run.entry) (Maps (F.disk files.old) run.entry.out.now files.new (O.contents (inner_of out.old).now) (O.contents (inner_of out.new).now))) }
-    ensures cause { IfErr result (RefusesMap (F.disk files.old) (map_of run.entry) files.old files.new) }
+    ensures cause { IfErr result (RefusesMap (F.disk files.old) (map_of run.entry) files.old files.new (O.contents (inner_of out.old).now) (O.contents (inner_of out.new).now)) }
     ensures unmade { RefusedUnmade (F.disk files.old) files.old files.new result }
     ensures output { LeavesOutput RefusedUnprinted O.contents out.old out.new result }
 {
@@ -178,7 +178,7 @@ fn write_drawn<F: Files, O: Write>(
 ) -> Result<(), CommandRefusal>
     requires { failures_of out.old < 2 ^ 64 - 1 }
     ensures mapped { OnOk result (Maps (F.disk files.old) path.now files.new (O.contents (inner_of out.old).now) (O.contents (inner_of out.new).now) drawn.now.plan) }
-    ensures cause { IfErr result (IsOfWritingMap (F.disk files.old) path.now files.new) }
+    ensures cause { IfErr result (IsOfWritingMap (F.disk files.old) path.now files.new (O.contents (inner_of out.old).now) (O.contents (inner_of out.new).now) drawn.now.plan) }
     ensures unmade { RefusedUnmade (F.disk files.old) files.old files.new result }
     ensures output { LeavesOutput RefusedUnprinted O.contents out.old out.new result }
 {

@@ -2,6 +2,7 @@
 ghost use Rattle.std.specs.Prelude.{◌≡◌, ◌-◌, ◌^◌, ◌<◌, IfOk, IfErr, OnOk, OnErr, Err};
 ghost use Rattle.std.specs.Io.KnownBytes.{Appends};
 ghost use Rattle.heap_layout.specs.Counted.{inner_of, failures_of};
+ghost use Rattle.heap_layout.specs.Writing.{AppendsSome};
 ghost use Rattle.command_io.specs.Printing.{RefusedUnprinted};
 ghost use Rattle.command_io.specs.declared.refusal.CommandRefusal.TheVariants as refusals;
 ghost use Rattle.commands.specs.Moving.{moves_lines, refusal_of, FailsMoved, HasMoved, IsMovedAt, PrintsMoves, RefusesMoved, RefusesMovedAt, SomeMove};
@@ -27,7 +28,7 @@ pub fn print_moved<F: Files, O: Write>(
 ) -> Result<(), CommandRefusal>
     requires written { failures_of out.old < 2 ^ 64 - 1 }
     ensures passed { OnOk result (SomeMove (F.disk files.now) large image.now moved.now (PrintsMoves (O.contents (inner_of out.old).now) (O.contents (inner_of out.new).now))) }
-    ensures cause { IfErr result (RefusesMoved (F.disk files.now) large image.now moved.now) }
+    ensures cause { IfErr result (RefusesMoved (F.disk files.now) large image.now moved.now (O.contents (inner_of out.old).now) (O.contents (inner_of out.new).now)) }
     ensures output { LeavesOutput RefusedUnprinted O.contents out.old out.new result }
 {
     let moves = moves_at(alloc, files, image, moved, large)?;
@@ -38,6 +39,7 @@ pub fn print_moved<F: Files, O: Write>(
 fn print_moves<O: Write>(moves: Moves, out: &mut Counted<&mut O>) -> Result<(), CommandRefusal>
     requires { failures_of out.old < 2 ^ 64 - 1 }
     ensures printed { OnOk result (Appends (O.contents (inner_of out.old).now) (O.contents (inner_of out.new).now) (moves_lines moves.words moves.objects)) }
+    ensures begun { OnErr result (AppendsSome (O.contents (inner_of out.old).now) (O.contents (inner_of out.new).now) (moves_lines moves.words moves.objects)) }
     ensures cause { OnErr result (result ≡ Err refusals.CannotPrint) }
     ensures output { LeavesOutput RefusedUnprinted O.contents out.old out.new result }
 {

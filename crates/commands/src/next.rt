@@ -8,7 +8,7 @@ ghost use Rattle.command_io.specs.Disk.{WritesWhole};
 ghost use Rattle.command_io.specs.NewImages.{RefusedUnmade};
 ghost use Rattle.command_io.specs.declared.refusal.Output.TheVariants as outputs;
 ghost use Rattle.commands.specs.Outcomes.{IsHaltedBy};
-ghost use Rattle.commands.specs.Replays.{PrintsRun, StopsUnprinted};
+ghost use Rattle.commands.specs.Replays.{run_lines, PrintsRun, StopsUnprinted};
 ghost use Rattle.commands.specs.Nexts.{IsGivenAt, IsOfWritingNext, IsWrittenNext, MakesNext, RefusesGivenAt, RefusesNext, RefusesWriting};
 ghost use Rattle.commands.specs.Cycled.{given_by, refusal_by, shown_by, IsGivenWithin};
 ghost use Rattle.commands.specs.Leaving.{LeavesOutput};
@@ -130,7 +130,7 @@ fn write_cycled<F: Files, O: Write>(
     requires written { failures_of out.old < 2 ^ 64 - 1 }
     ensures written { OnOk result (WritesWhole (F.disk files.old) outputs.New path.now (encoding cycled.now.heap) files.new) }
     ensures printed { OnOk result (PrintsRun (O.contents (inner_of out.old).now) (O.contents (inner_of out.new).now) cycled.now.shown.items (live_words (live cycled.now.heap))) }
-    ensures cause { IfErr result (IsOfWritingNext (F.disk files.old) path.now (encoding cycled.now.heap) files.new) }
+    ensures cause { IfErr result (IsOfWritingNext (F.disk files.old) path.now (encoding cycled.now.heap) files.new (O.contents (inner_of out.old).now) (O.contents (inner_of out.new).now) (run_lines cycled.now.shown.items (live_words (live cycled.now.heap)))) }
     ensures unmade { RefusedUnmade (F.disk files.old) files.old files.new result }
     ensures output { LeavesOutput StopsUnprinted O.contents out.old out.new result }
 {

@@ -10,7 +10,7 @@ ghost use Rattle.command_io.specs.Texts.{HasLinesAt};
 ghost use Rattle.command_io.specs.declared.refusal.Output.TheVariants as outputs;
 ghost use Rattle.comp_trace.specs.Traces.{lines_of, mutators_of, roots_of};
 ghost use Rattle.commands.specs.Outcomes.{printed_of, refusal_of, IsHaltedBy, IsOfHalt, IsWritten, RefusesInputs, RefusesOutcome};
-ghost use Rattle.commands.specs.Replays.{dumped_of, IsOfWritingRun, PrintsRun, RefusesReplay, Replays, SomeRun, StopsUnprinted};
+ghost use Rattle.commands.specs.Replays.{dumped_of, run_lines, IsOfWritingRun, PrintsRun, RefusesReplay, Replays, SomeRun, StopsUnprinted};
 ghost use Rattle.commands.specs.Leaving.{LeavesOutput};
 
 use crate::replays::{Replayed, printed, replay_heap};
@@ -143,7 +143,7 @@ fn write_run<F: Files, O: Write>(
     requires written { failures_of out.old < 2 ^ 64 - 1 }
     ensures written { OnOk result (WritesWhole (F.disk files.old) outputs.Dump asked.entry.dump.now (dump_bytes (dumped_of asked.entry.mutators asked.entry.fresh run.now.finished)) files.new) }
     ensures printed { OnOk result (PrintsRun (O.contents (inner_of out.old).now) (O.contents (inner_of out.new).now) run.now.shown.items (live_of run.now.finished)) }
-    ensures cause { IfErr result (IsOfWritingRun (F.disk files.old) asked.entry.dump.now (dump_bytes (dumped_of asked.entry.mutators asked.entry.fresh run.now.finished)) files.new) }
+    ensures cause { IfErr result (IsOfWritingRun (F.disk files.old) asked.entry.dump.now (dump_bytes (dumped_of asked.entry.mutators asked.entry.fresh run.now.finished)) files.new (O.contents (inner_of out.old).now) (O.contents (inner_of out.new).now) (run_lines run.now.shown.items (live_of run.now.finished))) }
     ensures uncreated { RefusedUncreated (F.disk files.old) files.old files.new result }
     ensures output { LeavesOutput StopsUnprinted O.contents out.old out.new result }
 {

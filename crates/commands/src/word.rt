@@ -27,7 +27,7 @@ pub fn print_word<F: Files, O: Write>(
 ) -> Result<(), CommandRefusal>
     requires { failures_of out.old < 2 ^ 64 - 1 }
     ensures printed { OnOk result (SomeHeapAt (F.disk files.now) large path.now (PrintsWordAt index (O.contents (inner_of out.old).now) (O.contents (inner_of out.new).now))) }
-    ensures cause { IfErr result (RefusesAt (F.disk files.now) large path.now (RefusesPrint index)) }
+    ensures cause { IfErr result (RefusesAt (F.disk files.now) large path.now (RefusesPrint index (O.contents (inner_of out.old).now) (O.contents (inner_of out.new).now))) }
     ensures output { LeavesOutput RefusedUnprinted O.contents out.old out.new result }
 {
     let word = word_at(alloc, rt, files, path, large, index)?;

@@ -55,12 +55,12 @@ module _ (there : WrittenIsThere) (from to : MemoryFiles) (asked : TraceRun) (be
   raced_ok (Err refusal) h = tt
 
   unprinted_replay : RefusesReplay (memory_disk from) asked from to before after CannotPrint → KeptOrNot (KeepsReplayed from asked to) from to
-  unprinted_replay (bytes, is_there, (heap, stored, accepted, (known, (more, is_near, (text, is_text, (lines, has_lines, inl (left, written))))))) =
+  unprinted_replay (bytes, is_there, (heap, stored, accepted, (known, (more, is_near, (text, is_text, (lines, has_lines, inl (left, written, begun))))))) =
       inl (bytes, is_there, (heap, stored, accepted, (known, (more, is_near, (text, is_text, (lines, has_lines, (left, there from to outputs.Dump asked.dump.now _ written)))))))
   unprinted_replay (bytes, is_there, (heap, stored, accepted, (known, (more, is_near, (text, is_text, (lines, has_lines, inr halted)))))) = inr halted.2
 
   unprinted_race : RefusesRace (memory_disk from) asked from to before after CannotPrint → KeptOrNot (KeepsRaced from asked to) from to
-  unprinted_race (bytes, is_there, (heap, stored, accepted, (known, (more, is_near, (text, is_text, (lines, has_lines, inl (left, written))))))) =
+  unprinted_race (bytes, is_there, (heap, stored, accepted, (known, (more, is_near, (text, is_text, (lines, has_lines, inl (left, written, begun))))))) =
       inl (bytes, is_there, (heap, stored, accepted, (known, (more, is_near, (text, is_text, (lines, has_lines, (left, there from to outputs.Dump asked.dump.now _ written)))))))
   unprinted_race (bytes, is_there, (heap, stored, accepted, (known, (more, is_near, (text, is_text, (lines, has_lines, inr halted)))))) = inr halted.2
 

@@ -13,7 +13,8 @@ returns-clause-passed g c =
 
 pub returns-clause-cause : goal.returns-clause-cause
 returns-clause-cause g c =
-    unprinted_audit (g.F.Files.disk c.args.files.now) (audit_of c.args.run.now) c.in_ok-words.words c.print_line.result c.in_ok-words.ensures.passed c.print_line.ensures.cause
+    unprinted_audit (g.F.Files.disk c.args.files.now) (audit_of c.args.run.now) c.requires.plain c.in_ok-words.words _ _ c.print_line.result c.in_ok-words.ensures.passed c.print_line.ensures.cause
+    c.print_line.ensures.begun
 
 pub returns-clause-output : goal.returns-clause-output
 returns-clause-output g c =

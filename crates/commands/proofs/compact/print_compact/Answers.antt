@@ -11,7 +11,7 @@ pub returns-in_err-finished-clause-cause : goal.returns-in_err-finished-clause-c
 returns-in_err-finished-clause-cause g c =
     let p = err_from_is_err_and c.from_residual.result c.from_residual.ensures.1 in
     rw (p.1, p.2) (of_sweep (g.F.Files.disk c.args.files.now) c.args.large c.args.image.now c.args.dump.now c.args.workers c.args.files.now
-    _ c.in_err-finished.ensures.cause)
+    (g.O.Write.contents (inner_of c.args.out.now).now) (g.O.Write.contents (inner_of c.args.out.now).now) _ c.in_err-finished.ensures.cause)
 
 pub returns-in_err-finished-clause-output : goal.returns-in_err-finished-clause-output
 returns-in_err-finished-clause-output g c =
@@ -38,7 +38,7 @@ returns-in_err-write_dump_to-clause-cause g c =
       total = made.total;
     } in
     rw (p.1, p.2) (of_dumping (g.F.Files.disk c.args.files.now) c.args.large c.args.image.now c.args.dump.now c.args.workers c.write_dump_to.new.files
-    c.in_ok-finished.finished c.in_ok-made.made parts c.in_ok-finished.ensures.swept _ c.in_err-write_dump_to.ensures.cause)
+    (g.O.Write.contents (inner_of c.args.out.now).now) (g.O.Write.contents (inner_of c.args.out.now).now) c.in_ok-finished.finished c.in_ok-made.made parts c.in_ok-finished.ensures.swept _ c.in_err-write_dump_to.ensures.cause)
 
 pub returns-in_err-write_dump_to-clause-output : goal.returns-in_err-write_dump_to-clause-output
 returns-in_err-write_dump_to-clause-output g c =
@@ -64,8 +64,8 @@ returns-clause-compacted g c =
       total = made.total;
     } in
     on_ok_weaker c.print_line.result (λ line. of_all (g.F.Files.disk c.args.files.now) c.args.large c.args.image.now c.args.dump.now c.args.workers c.write_dump_to.new.files
-    c.in_ok-finished.finished c.in_ok-made.made parts c.in_ok-finished.ensures.swept c.in_ok-write_dump_to.ensures.written
-    (g.O.Write.contents (inner_of c.args.out.now).now) (g.O.Write.contents (inner_of c.print_line.new.out).now) c.live_words.result c.live_words.ensures.total line)
+    (g.O.Write.contents (inner_of c.args.out.now).now) (g.O.Write.contents (inner_of c.print_line.new.out).now)
+    c.in_ok-finished.finished c.in_ok-made.made parts c.in_ok-finished.ensures.swept c.in_ok-write_dump_to.ensures.written c.live_words.result c.live_words.ensures.total line)
     c.print_line.ensures.printed
 
 pub returns-clause-cause : goal.returns-clause-cause
@@ -81,8 +81,9 @@ returns-clause-cause g c =
       total = made.total;
     } in
     of_line (g.F.Files.disk c.args.files.now) c.args.large c.args.image.now c.args.dump.now c.args.workers c.write_dump_to.new.files
+    (g.O.Write.contents (inner_of c.args.out.now).now) (g.O.Write.contents (inner_of c.print_line.new.out).now)
     c.in_ok-finished.finished c.in_ok-made.made parts c.in_ok-finished.ensures.swept c.in_ok-write_dump_to.ensures.written
-    c.print_line.result c.print_line.ensures.cause
+    c.live_words.result c.live_words.ensures.total c.print_line.result c.print_line.ensures.cause c.print_line.ensures.begun
 
 pub returns-clause-uncreated : goal.returns-clause-uncreated
 returns-clause-uncreated g c = created_line (g.F.Files.disk c.args.files.now) c.args.files.now c.write_dump_to.new.files c.print_line.result c.print_line.ensures.cause

@@ -7,7 +7,7 @@ returns-clause-passed g c =
 
 pub returns-clause-cause : goal.returns-clause-cause
 returns-clause-cause g c =
-    unprinted_moved (g.F.Files.disk c.args.files.now) c.args.large c.args.image.now c.args.moved.now c.in_ok-moves.moves c.print_moves.result c.in_ok-moves.ensures.passed c.print_moves.ensures.cause
+    unprinted_moved (g.F.Files.disk c.args.files.now) c.args.large c.args.image.now c.args.moved.now c.in_ok-moves.moves _ _ c.print_moves.result c.in_ok-moves.ensures.passed c.print_moves.ensures.cause c.print_moves.ensures.begun
 
 pub returns-clause-output : goal.returns-clause-output
 returns-clause-output g c = c.print_moves.ensures.output

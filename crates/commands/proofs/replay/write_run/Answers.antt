@@ -1,6 +1,7 @@
-use Rattle.std.proofs.Common.{ℕ, List, OnOk, subst, ◌∙◌}
+use Rattle.std.proofs.Common.{ℕ, List, OnErr, OnOk, subst, ◌∙◌}
 use Rattle.std.proofs.lemmas.Result.{err_from_is_err_and}
 use Rattle.heap_layout.specs.Counted.{inner_of, failures_of}
+use Rattle.heap_layout.specs.Writing.{AppendsSome}
 use Rattle.comp_mutator.specs.Finishes.{live_of}
 use Rattle.comp_dump.specs.Dumped.{Dumped}
 use Rattle.comp_dump.specs.DumpEncoding.{dump_bytes}
@@ -10,7 +11,7 @@ use Rattle.command_io.specs.Dumps.{IsOfDumping}
 use Rattle.command_io.specs.declared.refusal.Output.TheVariants as outputs
 use Rattle.command_io.proofs.Outcomes.{created_line, uncounted_dump, uncreated_by}
 use Rattle.comp_trace.specs.declared.steps.shown.Shown.{Shown}
-use Rattle.commands.specs.Replays.{PrintsRun}
+use Rattle.commands.specs.Replays.{run_lines, PrintsRun}
 use Rattle.commands.proofs.ReplayRuns.{dumped_same, unprinted_run, writing_of}
 use Rattle.commands.proofs.Leavings.{untouched_run, left_stopped}
 use Rattle.commands.proofs.replay.write_run.Goals as goal
@@ -24,7 +25,7 @@ returns-in_err-write_dump_to-clause-cause g c =
     let disk = g.F.Files.disk c.args.files.now in
     let dump = c.in_ok-dump.dump in
     let same = dumped_same asked.mutators asked.fresh c.args.run.now.finished dump made.edition made.mutators made.fresh made.roots made.pages made.builds made.total in
-    rw (p.1, p.2) (writing_of disk asked.dump.now _ c.write_dump_to.new.files _
+    rw (p.1, p.2) (writing_of disk asked.dump.now _ c.write_dump_to.new.files (g.O.Write.contents (inner_of c.args.out.now).now) (g.O.Write.contents (inner_of c.args.out.now).now) _ _
     (subst (λ (d : Dumped). IsOfDumping disk asked.dump.now (dump_bytes d) c.in_err-write_dump_to.field-0.0) same c.in_err-write_dump_to.ensures.cause))
 
 pub returns-in_err-write_dump_to-clause-output : goal.returns-in_err-write_dump_to-clause-output
@@ -61,7 +62,12 @@ returns-clause-cause g c =
     let made = c.in_ok-dump.ensures in
     let disk = g.F.Files.disk c.args.files.now in
     let same = dumped_same asked.mutators asked.fresh c.args.run.now.finished c.in_ok-dump.dump made.edition made.mutators made.fresh made.roots made.pages made.builds made.total in
-    unprinted_run disk asked.dump.now _ c.write_dump_to.new.files c.print_run.result c.print_run.ensures.cause
+    let before = g.O.Write.contents (inner_of c.args.out.now).now in
+    let after = g.O.Write.contents (inner_of c.print_run.new.out).now in
+    let live = live_of c.args.run.now.finished in
+    unprinted_run disk asked.dump.now _ c.write_dump_to.new.files before after (run_lines c.args.run.now.shown.items live) c.print_run.result c.print_run.ensures.cause
+    (subst (λ (shown : List Shown). OnErr c.print_run.result (AppendsSome before after (run_lines shown live))) c.deref.ensures.value
+    (subst (λ (n : ℕ). OnErr c.print_run.result (AppendsSome before after (run_lines c.deref.result.now n))) (c.live_words.ensures.total ∙ made.total) c.print_run.ensures.begun))
     (subst (λ (d : Dumped). WritesWhole disk outputs.Dump asked.dump.now (dump_bytes d) c.write_dump_to.new.files) same c.in_ok-write_dump_to.ensures.written)
 
 pub returns-clause-output : goal.returns-clause-output

@@ -4,10 +4,10 @@ use Rattle.command_line.specs.declared.words.Task.{Task}
 use Rattle.command_line.specs.Runs.{audit_of}
 use Rattle.commands.specs.Audits.{RefusedUnexplained, RefusesAudit, LeavesUnexplained}
 use Rattle.commands.specs.Tasks.{DoesTask, RefusesTask}
+use Rattle.command_io.proofs.Begun.{failed_by}
 use Rattle.command_io.proofs.Outcomes.{unmade_too}
 use Rattle.commands.proofs.ReplayRuns.{unmade_anyway}
 use Rattle.commands.proofs.ComparedAudits.{both_err, left_unprinted}
-use Rattle.commands.proofs.Performed.{err_by}
 use Rattle.commands.specs.Replays.{StopsUnprinted}
 use Rattle.commands.proofs.Leavings.{line_left, left_by, left_stopped}
 use Rattle.commands.proofs.running.print_task.Goals as goal
@@ -66,7 +66,7 @@ returns-in-Audit-clause-cause g c =
     let before = g.O.Write.contents (inner_of c.args.out.now).now in
     let after = g.O.Write.contents (inner_of c.print_audit.new.out).now in
     subst (λ (task : Task). IfErr c.print_audit.result (RefusesTask disk c.args.files.now c.args.files.now before after task)) (sym c.in-Audit.is)
-    (both_err (RefusesAudit disk (audit_of c.in-Audit.run')) (RefusedUnexplained disk (audit_of c.in-Audit.run') before after) c.print_audit.result c.print_audit.ensures.cause c.print_audit.ensures.output.printed)
+    (both_err (RefusesAudit disk (audit_of c.in-Audit.run') before after) (RefusedUnexplained disk (audit_of c.in-Audit.run') before after) c.print_audit.result c.print_audit.ensures.cause c.print_audit.ensures.output.printed)
 
 pub returns-in-Moved-clause-cause : goal.returns-in-Moved-clause-cause
 returns-in-Moved-clause-cause g c =
@@ -93,11 +93,11 @@ returns-in-Mark-clause-cause g c =
 
 pub returns-in-Help-clause-cause : goal.returns-in-Help-clause-cause
 returns-in-Help-clause-cause g c =
-    subst (λ (task : Task). IfErr c.print_help.result (RefusesTask (g.F.Files.disk c.args.files.now) c.args.files.now c.args.files.now (g.O.Write.contents (inner_of c.args.out.now).now) (g.O.Write.contents (inner_of c.print_help.new.out).now) task)) (sym c.in-Help.is) (err_by _ c.print_help.result c.print_help.ensures.cause refl)
+    subst (λ (task : Task). IfErr c.print_help.result (RefusesTask (g.F.Files.disk c.args.files.now) c.args.files.now c.args.files.now (g.O.Write.contents (inner_of c.args.out.now).now) (g.O.Write.contents (inner_of c.print_help.new.out).now) task)) (sym c.in-Help.is) (failed_by _ _ (λ some. (refl, some)) c.print_help.result c.print_help.ensures.cause c.print_help.ensures.begun)
 
 pub returns-in-Version-clause-cause : goal.returns-in-Version-clause-cause
 returns-in-Version-clause-cause g c =
-    subst (λ (task : Task). IfErr c.print_text.result (RefusesTask (g.F.Files.disk c.args.files.now) c.args.files.now c.args.files.now (g.O.Write.contents (inner_of c.args.out.now).now) (g.O.Write.contents (inner_of c.print_text.new.out).now) task)) (sym c.in-Version.is) (err_by _ c.print_text.result c.print_text.ensures.cause refl)
+    subst (λ (task : Task). IfErr c.print_text.result (RefusesTask (g.F.Files.disk c.args.files.now) c.args.files.now c.args.files.now (g.O.Write.contents (inner_of c.args.out.now).now) (g.O.Write.contents (inner_of c.print_text.new.out).now) task)) (sym c.in-Version.is) (failed_by _ _ (λ some. (refl, some)) c.print_text.result c.print_text.ensures.cause c.print_text.ensures.begun)
 
 pub returns-in-Plan-clause-output : goal.returns-in-Plan-clause-output
 returns-in-Plan-clause-output g c = left_stopped g.O.Write.contents c.args.out.now c.print_plan.new.out c.print_plan.result c.print_plan.ensures.output
