@@ -9,8 +9,8 @@ use crate::refusal::{CommandRefusal, Input};
 use heap_layout::{Counted, ImageParts, MarkedHeap, read_image, read_large_image, read_parts};
 use std::alloc::Global;
 
-/// Reads the heap whose image is at a path, of edition three only if `large`. Refuses if the file cannot be opened or
-/// read, if the image is refused, with its first fault, and if memory runs out.
+/// Reads the heap whose image is at a path, of edition three or four only if `large`. Refuses if the file cannot be
+/// opened or read, if the image is refused, with its first fault, and if memory runs out.
 pub fn heap_at<F: Files>(
     alloc: Global,
     files: &F,
@@ -28,9 +28,9 @@ pub fn heap_at<F: Files>(
     }
 }
 
-/// Reads the parts of the image at a path, of edition three only if `large`. Their heap is not checked: it may have any
-/// fault but `TooLarge`. Refuses if the file cannot be opened or read, if the bytes are no image, if a count is above
-/// its limit, and if memory runs out.
+/// Reads the parts of the image at a path, of edition three or four only if `large`. Their heap is not checked: it may
+/// have any fault but `TooLarge`. Refuses if the file cannot be opened or read, if the bytes are no image, if a count
+/// is above its limit, and if memory runs out.
 pub fn parts_at<F: Files>(
     alloc: Global,
     files: &F,

@@ -18,13 +18,13 @@ use std::io::Write;
 use std::thread::Threads;
 
 /// Audits the dump at `run.dump` against the heap image at `run.image`, which is read first. Both are of edition three
-/// only if `run.large`. With `run.words` it is a file of words and roots, which stands for a dump. With `run.whole` each
-/// compacted page must be built too. If the dump passes, prints `ok` and its live words; else the refusal is its first
-/// fault (`Audit`).
+/// or four only if `run.large`. With `run.words` it is a file of words and roots, which stands for a dump. With
+/// `run.whole` each compacted page must be built too. If the dump passes, prints `ok` and its live words; else the
+/// refusal is its first fault (`Audit`).
 ///
 /// With `run.explain` it prints before that how many of the pages are built and how many entries they have, and of a
-/// fault what is wrong where. Without it, a refusal other than `CannotPrint` prints nothing, and with it a refusal other
-/// than `Audit` and `CannotPrint`. Fewer than `u64::MAX` calls of the output must have failed before.
+/// fault what is wrong where. Without it, a refusal other than `CannotPrint` prints nothing, and with it a refusal
+/// other than `Audit` and `CannotPrint`. Fewer than `u64::MAX` calls of the output must have failed before.
 pub fn print_audit<F: Files, O: Write>(
     alloc: Global,
     rt: &(impl Threads + Sync),

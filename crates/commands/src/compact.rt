@@ -26,8 +26,8 @@ use std::sync::ledger::{Blank, Ledger};
 use std::sync::{Arc, Wait};
 use std::thread::Threads;
 
-/// Compacts the heap whose image is at `image`, of edition three only if `large`, with 1 to 64 workers, writes its dump to `dump`, and prints the live
-/// words.
+/// Compacts the heap whose image is at `image`, of edition three or four only if `large`, with 1 to 64 workers, writes
+/// its dump to `dump`, and prints the live words.
 ///
 /// Workers in threads of their own build the pages. The dump is created after the heap is finished, and the line is
 /// printed after the dump is written. A refusal other than `CannotPrint` prints nothing. Fewer than `u64::MAX` calls of

@@ -63,8 +63,8 @@ pub fn printed_cycle(left: &Uncycled) -> (&[Shown], CommandRefusal)
 /// that the register holds when the run ends.
 ///
 /// It is refused if a line is refused, with the values of the lines before it; if the next heap is refused, with its
-/// first fault, which is `TooLarge` if that heap is marked by what its roots reach, or `BadRoot` for the first root that
-/// is handed in and leads nowhere; and if memory runs out. Of the last two no value is printed.
+/// first fault, which is `TooLarge` if that heap is marked by what its roots reach, or `BadRoot` for the first root
+/// that is handed in and leads nowhere; and if memory runs out. Of the last two no value is printed.
 pub fn cycle_heap(
     alloc: Global,
     rt: &(impl Threads + Sync),

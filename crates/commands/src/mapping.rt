@@ -55,10 +55,10 @@ impl Drawn {
 
 /// The command `map`.
 ///
-/// It reads the image at `run.image`, and then the dump at `run.dump`, if there is one; both of edition three only if
-/// `run.large`. It makes the heap's plan and audits the dump, draws both, and writes the picture to `run.out`. A fault
-/// of the dump is drawn. Last it prints the live words. Fewer than `u64::MAX` calls of the output must have failed
-/// before.
+/// It reads the image at `run.image`, and then the dump at `run.dump`, if there is one; both of edition three or four
+/// only if `run.large`. It makes the heap's plan and audits the dump, draws both, and writes the picture to `run.out`.
+/// A fault of the dump is drawn. Last it prints the live words. Fewer than `u64::MAX` calls of the output must have
+/// failed before.
 ///
 /// The first of these steps that is refused ends it. A refusal other than `CannotPrint` prints nothing. The picture is
 /// created only after the dump was audited.

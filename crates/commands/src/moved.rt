@@ -13,10 +13,11 @@ use moved_heaps::{MovedFault, MovedHeap, Moves, judge, read_moved};
 use std::alloc::Global;
 use std::io::Write;
 
-/// Judges the moved heap at `moved` against the heap image at `image`, which is read first. Both are of edition three only
-/// if `large`. If a collection may have left it, prints `ok` and the words of the objects that moved, and then `objects`
-/// and how many these are; else the refusal is its first fault (`Moved`), but `OutOfMemory` if memory ran out. A refusal
-/// other than `CannotPrint` prints nothing. Fewer than `u64::MAX` calls of the output must have failed before.
+/// Judges the moved heap at `moved` against the heap image at `image`, which is read first. Both are of edition three
+/// or four only if `large`. If a collection may have left it, prints `ok` and the words of the objects that moved, and
+/// then `objects` and how many these are; else the refusal is its first fault (`Moved`), but `OutOfMemory` if memory
+/// ran out. A refusal other than `CannotPrint` prints nothing. Fewer than `u64::MAX` calls of the output must have
+/// failed before.
 pub fn print_moved<F: Files, O: Write>(
     alloc: Global,
     files: &F,
@@ -45,7 +46,8 @@ fn print_moves<O: Write>(moves: Moves, out: &mut Counted<&mut O>) -> Result<(), 
     print_line("objects ", moves.objects, out)
 }
 
-// What moved, if a collection of the heap image at `image` may have left the moved heap at `path`. The image is read first.
+// What moved, if a collection of the heap image at `image` may have left the moved heap at `path`. The image is read
+// first.
 fn moves_at<F: Files>(
     alloc: Global,
     files: &F,
@@ -78,7 +80,7 @@ fn refusal_of(fault: MovedFault) -> CommandRefusal
     }
 }
 
-// Reads the moved heap at a path, of edition three only if `large`.
+// Reads the moved heap at a path, of edition three or four only if `large`.
 fn moved_at<F: Files>(
     alloc: Global,
     files: &F,

@@ -70,7 +70,8 @@ pub struct Inputs {
     pub trace: Trace,
 }
 
-/// Reads the heap whose image is at a path, of edition three only if `large`, and then the trace for it at another path.
+/// Reads the heap whose image is at a path, of edition three or four only if `large`, and then the trace for it at
+/// another path.
 pub fn inputs_at<F: Files>(
     alloc: Global,
     files: &F,

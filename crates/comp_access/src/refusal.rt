@@ -15,7 +15,7 @@ pub enum Refusal {
     #[error("M3 NoSuchField")]
     NoSuchField,
     /// The heap's edition has no header like this: edition one has no weak words, edition two no tag of 2^16 or more,
-    /// edition three no tag of 2^14 or more.
+    /// editions three and four no tag of 2^14 or more.
     #[error("M11 NotInEdition")]
     NotInEdition,
     /// The object would have more than 64 words.

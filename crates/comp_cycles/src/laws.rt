@@ -55,8 +55,8 @@ pub fn weak_words_lead()
 {}
 
 /// Which numbers are no immediates: in editions one to three all, in edition four those below 2^63. A cycle gives out a
-/// number for each new object, of which there are no more than words on fresh pages. So a life of fewer than 2^31 cycles
-/// has no number that is an immediate, as `one_life` asks.
+/// number for each new object, of which there are no more than words on fresh pages. So a life of fewer than 2^31
+/// cycles has no number that is an immediate, as `one_life` asks.
 pub fn numbers_are_apart()
     ensures others { (edition : Edition) (n : ℕ) → edition ≢ Four → AreApart edition n }
     ensures small { (edition : Edition) (n : ℕ) → n < 2 ^ 63 → AreApart edition n }
@@ -64,8 +64,8 @@ pub fn numbers_are_apart()
     ensures life { (heap last : Heap) (cycles : List Cycle) → IsClosed heap → Follow heap cycles last → length cycles < 2 ^ 31 → AreApart heap.edition (given_left cycles (length heap.marks)) }
 {}
 
-/// No to-space address of a cycle is an immediate, as `one_writing` asks: not if it can be followed by another cycle, and
-/// not if it is that of a finished heap.
+/// No to-space address of a cycle is an immediate, as `one_writing` asks: not if it can be followed by another cycle,
+/// and not if it is that of a finished heap.
 pub fn addresses_are_low()
     ensures cycle { (heap : Heap) (c : Cycle) → IsClosed heap → IsCycleOf heap c → IsLow c }
     ensures end { (heap : Heap) (f : AFinished) (marks : List ℕ) → IsEndOf heap f → IsLow (cycle_of heap f marks) }

@@ -50,8 +50,8 @@ fn check_marks(starts: &[u64], marks: &[u32]) -> Result<(), LayoutFault>
 // A word that is no address of from-space.
 const NOWHERE: u64 = 1;
 
-// A root as an address of the next heap's from-space. Null stays null, and an immediate stays as it is. A word below the
-// to-space addresses leads nowhere; it is not taken as null.
+// A root as an address of the next heap's from-space. Null stays null, and an immediate stays as it is. A word below
+// the to-space addresses leads nowhere; it is not taken as null.
 fn lowered_root(edition: Edition, root: u64) -> u64
     ensures { result ≡ lowered edition (held root) }
 {
@@ -66,8 +66,8 @@ fn lowered_root(edition: Edition, root: u64) -> u64
     }
 }
 
-/// Roots, which are to-space addresses, null or immediates, as roots of the next heap of this edition. A word that is none
-/// of these becomes one that is no address of that heap.
+/// Roots, which are to-space addresses, null or immediates, as roots of the next heap of this edition. A word that is
+/// none of these becomes one that is no address of that heap.
 pub fn lowered_roots(
     alloc: Global,
     edition: Edition,
@@ -213,9 +213,9 @@ impl Finished {
     }
 
     /// As `next_cycle`, with other roots: those of the next heap are `roots`. Each is a to-space address, the start of
-    /// an object that slid or was made, or null. A mutator's stack and registers at the end of the cycle are such roots.
-    /// In the life of a heap whose objects never move, the roots lead to the objects at these addresses before the
-    /// marked objects are kept.
+    /// an object that slid or was made, or null. A mutator's stack and registers at the end of the cycle are such
+    /// roots. In the life of a heap whose objects never move, the roots lead to the objects at these addresses before
+    /// the marked objects are kept.
     ///
     /// Refusals are those of `next_cycle`, in the same order: `TooLarge` also if there are more roots than the edition
     /// allows; `BadRoot(k)` if root k is neither null nor the start of a marked object. After a refusal the finished
@@ -280,8 +280,8 @@ impl Finished {
         }
     }
 
-    /// As `next_cycle_with`, out of the words that `moved_words` made of this finished heap. The builder must be that of
-    /// the flip.
+    /// As `next_cycle_with`, out of the words that `moved_words` made of this finished heap. The builder must be that
+    /// of the flip.
     pub fn next_moved_with<B: Builder>(
         self,
         alloc: Global,

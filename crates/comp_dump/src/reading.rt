@@ -54,7 +54,7 @@ pub fn read_large_dump<R: Read>(
     read_dump_by(alloc, r, true)
 }
 
-// Reads a dump, of edition three only if `large`, to the end of the reader.
+// Reads a dump, of edition three or four only if `large`, to the end of the reader.
 fn read_dump_by<R: Read>(
     alloc: Global,
     r: &mut Counted<R>,

@@ -1,5 +1,5 @@
-//! The checks that a heap passes before it is accepted, in the order in which their faults count. Only in editions three
-//! and four they allocate.
+//! The checks that a heap passes before it is accepted, in the order in which their faults count. Only in editions
+//! three and four they allocate.
 ghost use Rattle.std.specs.Prelude.{◌≡◌, ℕ, ◌+◌, ◌*◌, ◌^◌, ◌<◌, ◌≤◌, ◌==◌, ◌&&◌, ◌++◌, nat_lt, false, [], All, length, slice_index, IfOk};
 ghost use Rattle.std.specs.List.{flat_map};
 ghost use Rattle.heap_layout.specs.declared.edition.Edition.TheVariants.{Three};
@@ -228,8 +228,8 @@ fn check_roots(bits: &[u64], edition: Edition, roots: &[u64]) -> Result<(), Layo
     Ok(())
 }
 
-// Checks that each weak word of each marked object is null, the address of an object, marked or not, or an immediate. Of
-// a row with weak words the bits are then those of all objects.
+// Checks that each weak word of each marked object is null, the address of an object, marked or not, or an immediate.
+// Of a row with weak words the bits are then those of all objects.
 fn check_weak(
     bits: &mut [u64],
     edition: Edition,

@@ -6,8 +6,8 @@ ghost use Rattle.heap_layout.specs.Counted.{inner_of, failures_of, is_flushed_of
 use std::io::{Error, ErrorKind, Read, Result, Write};
 
 /// A reader or writer that counts the calls through it that failed. A call fails if it answers an error. A write also
-/// fails if it takes no byte of a part that is not empty. For a writer it also records whether all bytes that were taken
-/// through it have been flushed since.
+/// fails if it takes no byte of a part that is not empty. For a writer it also records whether all bytes that were
+/// taken through it have been flushed since.
 #[derive(Debug, Drop)]
 pub struct Counted<R> {
     inner: R,

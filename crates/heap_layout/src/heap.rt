@@ -74,8 +74,8 @@ impl MarkedHeap {
         })
     }
 
-    /// Makes a heap of this edition from words, marks and roots that are known to be accepted. It looks at none of them,
-    /// and does not allocate.
+    /// Makes a heap of this edition from words, marks and roots that are known to be accepted. It looks at none of
+    /// them, and does not allocate.
     pub fn of_accepted(
         edition: Edition,
         words: Vec<u64>,

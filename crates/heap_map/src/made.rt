@@ -7,8 +7,8 @@ ghost use Rattle.heap_layout.specs.Header.{size_of};
 use comp_journal::Entry;
 use heap_layout::{Edition, Header, Kind};
 
-/// The header of the object that an entry makes at the offset `end` of its page, where the objects before it end. None if
-/// it makes no object there, or one that would end past the page.
+/// The header of the object that an entry makes at the offset `end` of its page, where the objects before it end. None
+/// if it makes no object there, or one that would end past the page.
 pub fn made_at(edition: Edition, entry: Entry, end: u32) -> Option<Header>
     requires { end ≤ 64 }
     ensures next { IfSome result (λ header. entry.offset ≡ end) }

@@ -8,8 +8,8 @@ use crate::index::Index;
 use heap_layout::{FROM_SPACE, MarkedHeap, TO_SPACE};
 
 /// Where a root, a reference or a weak word leads once the marked objects are at these places: to the new place of its
-/// object, and to null if it is null or no marked object is there. An immediate stays as it is. The index must be that of
-/// the heap, and there must be a place for each marked object.
+/// object, and to null if it is null or no marked object is there. An immediate stays as it is. The index must be that
+/// of the heap, and there must be a place for each marked object.
 pub(crate) fn led(heap: &MarkedHeap, index: &Index, places: &[u32], word: u64) -> u64
     requires index { index.now ≡ heap.now.marks }
     requires places { length places.now ≡ length heap.now.marks }

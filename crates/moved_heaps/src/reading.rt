@@ -25,7 +25,7 @@ const MAGIC: [u8; 8] = *b"COMPMOVE";
 // The most words of to-space, in every edition.
 const MAX_MOVED_WORDS: u32 = 2_147_483_648;
 
-/// Reads a moved heap, of edition three only if `large`, to the end of the reader.
+/// Reads a moved heap, of edition three or four only if `large`, to the end of the reader.
 ///
 /// Each field is checked as soon as it is read, whatever follows it. The version gives the edition. There may be as
 /// many places as a heap of the edition may have marks, as many roots as it may have roots, and 2,147,483,648 words.

@@ -192,8 +192,8 @@ impl Plan {
         }
     }
 
-    /// Forwards a root, a reference or a weak word of the heap: an immediate of edition four to itself, any other word as
-    /// `forward` does.
+    /// Forwards a root, a reference or a weak word of the heap: an immediate of edition four to itself, any other word
+    /// as `forward` does.
     pub fn forward_value(&self, word: u64) -> Option<u64>
         ensures { result ≡ forward_value self.now.edition (live self.now) word }
     {

@@ -15,8 +15,8 @@ ghost use Rattle.reachability.specs.Reachable.{AreReachable, IsReachable};
 ghost use Rattle.reachable_cycles.specs.NextRoots.{Fits};
 ghost use Rattle.reachable_cycles.specs.StableReach.{AreMarkedReachable, IsReachableIn, KeepsExactly, KeepsReachable, written};
 
-/// The roots of a heap reach a marked object if they reach it in object numbers, and only then, if no object's number is
-/// an immediate.
+/// The roots of a heap reach a marked object if they reach it in object numbers, and only then, if no object's number
+/// is an immediate.
 pub fn numbers_reach()
     ensures { (heap : Heap) (numbers : List ℕ) (stable : StableHeap) (i : ℕ) → IsClosed heap → IsNumberedAs heap numbers stable → AreApart heap.edition stable.given → Contains heap.marks i
         → IsReachable heap.edition heap.words heap.roots i ↔ IsReachableIn stable stable.roots (number_at (names_in heap numbers) (from_address i)) }
@@ -38,7 +38,8 @@ pub fn cycles_keep_reachable()
 {}
 
 /// If exactly the reachable objects of the next heap are marked, it has no fault, unless it has more words or roots
-/// than its edition allows. Its roots are those of the heap before it, or others that are null or immediates or lead to objects.
+/// than its edition allows. Its roots are those of the heap before it, or others that are null or immediates or lead to
+/// objects.
 pub fn next_heap_is_accepted()
     ensures stayed { (u : Setup) (journals : Journals) (roots marks : List ℕ) → IsClosed u.heap → CanMerge u journals → AreForwarded u.heap roots → 64 * pages u ≤ most_words u.heap.edition
         → AreReachable u.heap.edition (next_heap u journals roots marks).words (next_heap u journals roots marks).roots marks → next_faults u journals (next_heap u journals roots marks) ≡ [] }

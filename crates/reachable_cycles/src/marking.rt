@@ -23,8 +23,8 @@ pub(crate) struct Marked {
     pub(crate) roots: Vec<u64>,
 }
 
-// Whether a root of the next heap is null, an immediate or the address of an object. `starts` has a bit for each word of
-// that heap, which is set if an object starts there.
+// Whether a root of the next heap is null, an immediate or the address of an object. `starts` has a bit for each word
+// of that heap, which is set if an object starts there.
 fn is_root(edition: Edition, starts: &[u64], root: u64) -> bool
     ensures { result ≡ or_immediate edition (leads starts.now) root }
 {
@@ -54,9 +54,9 @@ fn check_roots(edition: Edition, starts: &[u64], roots: &[u64]) -> Result<(), La
     Ok(())
 }
 
-/// Moves the words of the next heap, and finds the marks there. `roots` are to-space addresses, immediates or null, and become the
-/// roots of that heap. Refusals, in this order: `TooLarge`; `BadRoot` for the first root that is neither null nor an
-/// immediate nor the start of an object. `OutOfMemory` may replace any other answer but `TooLarge`.
+/// Moves the words of the next heap, and finds the marks there. `roots` are to-space addresses, immediates or null, and
+/// become the roots of that heap. Refusals, in this order: `TooLarge`; `BadRoot` for the first root that is neither
+/// null nor an immediate nor the start of an object. `OutOfMemory` may replace any other answer but `TooLarge`.
 pub(crate) fn mark_next<B: Builder>(
     alloc: Global,
     builder: &B,

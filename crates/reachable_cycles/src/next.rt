@@ -52,12 +52,12 @@ pub fn next_reachable<B: Builder>(
 }
 
 /// As `next_reachable`, with other roots: those of the next heap are `roots`. Each is a to-space address, the start of
-/// an object that slid or was made, or null, or in edition four an immediate. A mutator's stack and registers at the end of the cycle are such roots.
-/// What only the roots of before reach is dropped.
+/// an object that slid or was made, or null, or in edition four an immediate. A mutator's stack and registers at the
+/// end of the cycle are such roots. What only the roots of before reach is dropped.
 ///
 /// Refusals, in this order: `TooLarge` if the next heap would have more words or more roots than its edition allows;
-/// `BadRoot(k)` for the first root that is neither null, nor an immediate, nor the start of an object. `OutOfMemory` may replace any other
-/// answer but `TooLarge`. After a refusal the finished heap is handed back unchanged.
+/// `BadRoot(k)` for the first root that is neither null, nor an immediate, nor the start of an object. `OutOfMemory`
+/// may replace any other answer but `TooLarge`. After a refusal the finished heap is handed back unchanged.
 pub fn next_reachable_with<B: Builder>(
     finished: Finished,
     alloc: Global,

@@ -17,7 +17,8 @@ pub enum Field {
 }
 
 /// An object: its header, and its fields, references first, then weak words, then data words. A reference or a weak
-/// word is the number of an object, counted from 1, an immediate of edition four, or 0. `at` is the index of its header in the current heap.
+/// word is the number of an object, counted from 1, an immediate of edition four, or 0. `at` is the index of its header
+/// in the current heap.
 #[derive(Drop)]
 pub struct Plain {
     pub header: Header,

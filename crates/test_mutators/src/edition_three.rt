@@ -14,8 +14,8 @@ const WEAK: u64 = T + 140_005;
 // The start of the first fresh page.
 const FRESH: u64 = T + 210_048;
 
-// Fields number 65,535, number 65,536 and the last of each of the objects are read, and the page of each is built alone.
-// No object has one more field.
+// Fields number 65,535, number 65,536 and the last of each of the objects are read, and the page of each is built
+// alone. No object has one more field.
 static READ: MutatedHeap = MutatedHeap {
     name: "reads fields far from their headers",
     heap: Worked::ManyFields,

@@ -183,8 +183,8 @@ pub const BAD_ROOT_IMAGE: [Part; 5] = [
     Part::Words(&[4_294_967_297]),
 ];
 
-/// What a collection left of the three objects that moved them backwards: the last is at 0, the second at 3 and the first
-/// at 7. The words at 2 and 6 are free.
+/// What a collection left of the three objects that moved them backwards: the last is at 0, the second at 3 and the
+/// first at 7. The words at 2 and 6 are free.
 pub const MOVED: [Part; 5] = [
     Part::Bytes(b"COMPMOVE"),
     Part::Numbers(&[1, 3, 1, 9]),

@@ -13,8 +13,9 @@ pub const MANY_DATA: u64 = 0x8002_0000_8001_1170;
 pub const MANY_WEAK: u64 = 0xc003_0000_8001_1170;
 
 // The words of the three objects that are not 0, each with its index. Of the references number 0 and the last lead to
-// the object with many data words, number 65,535 to the one with many weak words, and number 65,536 to their own object.
-// Of the weak words number 0 and number 65,536 lead to the object of one word before all others, which is not marked.
+// the object with many data words, number 65,535 to the one with many weak words, and number 65,536 to their own
+// object. Of the weak words number 0 and number 65,536 lead to the object of one word before all others, which is not
+// marked.
 static OBJECTS: [(usize, u64); 19] = [
     (1, MANY_REFERENCES),
     (2, F + 70_004),
@@ -79,7 +80,8 @@ pub fn immediates(alloc: Global) -> Option<MarkedHeap> {
     heap_of(alloc, Edition::Four, &WEAK, &[0, 5], &roots)
 }
 
-/// The same objects with this many roots. Number 65,536 and number 69,999 refer to the last object; all others are null.
+/// The same objects with this many roots. Number 65,536 and number 69,999 refer to the last object; all others are
+/// null.
 pub fn many_roots(alloc: Global, count: u32) -> Option<MarkedHeap> {
     let mut roots = zeros(alloc, count as usize).ok()?;
     put(&mut roots, &FAR_ROOTS);

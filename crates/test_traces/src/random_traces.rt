@@ -1,5 +1,5 @@
-//! Pseudorandom traces: of editions one and two a thousand each are replayed by one thread, and 1,200 each are raced; of
-//! editions three and four 100 and 100. A replay must do as the plain model does.
+//! Pseudorandom traces: of editions one and two a thousand each are replayed by one thread, and 1,200 each are raced;
+//! of editions three and four 100 and 100. A replay must do as the plain model does.
 use crate::drawn_traces::{Drawn, draw_trace};
 use crate::finished_heaps::expect_pages;
 use crate::finished_runs::replayed;

@@ -1,4 +1,5 @@
-//! The eighth check: each reference and weak word that was written is null or an immediate, or leads to an object that is older.
+//! The eighth check: each reference and weak word that was written is null or an immediate, or leads to an object that
+//! is older.
 ghost use Rattle.std.specs.Prelude.{◌≡◌, ℕ, List, ◌==◌, ◌++◌, not, Some};
 ghost use Rattle.comp_audit.specs.Checks.{is_led, late_faults, late_on, late_with, unless};
 ghost use Rattle.comp_audit.specs.Reported.{Reports};
@@ -22,8 +23,8 @@ pub struct Late {
     pub number: u64,
 }
 
-/// Checks that each reference and weak word that was written is null or an immediate, or leads to a slid object, or to a new object
-/// whose header has a smaller stamp.
+/// Checks that each reference and weak word that was written is null or an immediate, or leads to a slid object, or to
+/// a new object whose header has a smaller stamp.
 pub fn check_late(plan: &Plan, starts: &Starts, records: &DumpedPages<'_>) -> Result<(), CheckEnd>
     ensures { Reports (late_faults (is_led plan.now (is_noted_before starts.now)) records.now) result }
 {

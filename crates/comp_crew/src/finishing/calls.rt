@@ -104,9 +104,9 @@ fn close_all(crew: Crew, hands: Vec<Hand>, room: Rooms) -> Ended
 /// Ends a crew all of whose mutators were handed back, in any order, and answers the finished heap.
 ///
 /// A missing mutator is refused first (`MutatorMissing`), before anything else is done. Then all memory is reserved; if
-/// there is too little, or the crew's cells have another owner (`StillShared`), the crew is whole. After each refusal it
-/// comes back with all hands that it had. The cells have another owner only while a mutator of the crew is out, and then
-/// it is missing.
+/// there is too little, or the crew's cells have another owner (`StillShared`), the crew is whole. After each refusal
+/// it comes back with all hands that it had. The cells have another owner only while a mutator of the crew is out, and
+/// then it is missing.
 pub fn finish(alloc: Global, bench: Bench) -> Result<Ended, Unfinished>
     requires { IsBench bench }
     ensures finished { IfOk result (IsEndBy bench) }

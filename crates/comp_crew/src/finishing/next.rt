@@ -69,7 +69,8 @@ impl Ended {
     ///
     /// Refusals, in this order: `TooLarge` if the next heap would have more words or more roots than its edition
     /// allows; `BadRoot(k)` for the first root that is neither null, nor an immediate of the edition, nor the start of
-    /// an object. `OutOfMemory` may replace any other answer but `TooLarge`. After a refusal the end is handed back unchanged.
+    /// an object. `OutOfMemory` may replace any other answer but `TooLarge`. After a refusal the end is handed back
+    /// unchanged.
     ///
     /// Requires what `finish` ensures.
     pub fn next_reached(self, alloc: Global, roots: &[u64]) -> Result<MarkedHeap, NotFollowed>

@@ -25,8 +25,8 @@ use std::marker::Model;
 // The first bytes of a file of words and roots.
 const WORDS_MAGIC: [u8; 8] = *b"COMPWORD";
 
-/// Reads a file of words and roots, to the end of the reader, of edition three only if `large`. The answer is the dump
-/// for which it stands.
+/// Reads a file of words and roots, to the end of the reader, of edition three or four only if `large`. The answer is
+/// the dump for which it stands.
 ///
 /// Each field is checked as soon as it is read, and a call of the reader that returns an error ends the reading, as in
 /// `read_dump`. Room grows as roots and words come. After an Err the bytes that were read are lost. Fewer than

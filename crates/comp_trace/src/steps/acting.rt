@@ -12,9 +12,9 @@ use std::alloc::Global;
 use std::sync::ledger::Ledger;
 
 /// Does what a line says, and answers what its call answers; a line `root` answers the forwarded root, a line `nil` 0,
-/// and a line `imm` the immediate. Does not wait for a busy page. If the call or the immediate is refused, the registers
-/// are as before, and the mutator has written nothing. Requires a mutator of this space, and a line whose registers and
-/// root exist, and whose payload is one.
+/// and a line `imm` the immediate. Does not wait for a busy page. If the call or the immediate is refused, the
+/// registers are as before, and the mutator has written nothing. Requires a mutator of this space, and a line whose
+/// registers and root exist, and whose payload is one.
 pub fn act<L: Ledger, B: Builder>(
     alloc: Global,
     space: &Space<L, B>,

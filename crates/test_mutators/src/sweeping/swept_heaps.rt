@@ -16,13 +16,14 @@ pub enum Beside {
     Steals,
     /// The gate lets each region below this number begin only after all of these have begun.
     Together(u64),
-    /// The gate lets each region below the first number begin only after so many other regions as the second have ended.
+    /// The gate lets each region below the first number begin only after so many other regions as the second have
+    /// ended.
     Frees(u64, u64),
     /// The last mutator does not sweep. In a thread of its own it reads the last data word of the second object, which
     /// is this.
     Reader(u64),
-    /// The last mutator does not sweep. At each of the gate's calls, it looks in a thread of its own at the pages of the
-    /// region: before the region its first page is not built, after it all its pages are.
+    /// The last mutator does not sweep. At each of the gate's calls, it looks in a thread of its own at the pages of
+    /// the region: before the region its first page is not built, after it all its pages are.
     Looks,
     /// An earlier sweep asks for more memory than there is for page 9.
     Refusal,

@@ -17,7 +17,8 @@ use std::sync::ledger::{Blank, Ledger as Named};
 use std::thread::Threads;
 use test_support::Refusing;
 
-// Sweeps a flipped heap beside a reader or while one looks at each region, or sweeps it, sweeps it again without workers, and finishes.
+// Sweeps a flipped heap beside a reader or while one looks at each region, or sweeps it, sweeps it again without
+// workers, and finishes.
 fn play<L: Named + Send + Sync, B: Builder, R: Abort + Threads + Wait + Sync>(
     rt: &R,
     alloc: Global,
