@@ -6,3 +6,5 @@ pub mod Unread
 pub mod Imaged
 pub mod Printings
 pub mod Opened
+pub mod Begun
+pub mod Ended

@@ -1,11 +1,14 @@
 -- What refusals leave of the output, of the dump and of the new image; and dumps that have the same parts.
-use Rattle.std.proofs.Common.{◌≡◌, ℕ, List, Option, Result, Ok, Err, OnErr, inl, inr, refl, sym, subst}
+use Rattle.std.proofs.Common.{◌≡◌, ℕ, List, Option, Result, Ok, Err, OnErr, inl, refl, sym, subst}
 use Rattle.std.proofs.KnownBytes.{Keeps-refl}
 use Rattle.heap_layout.specs.declared.edition.Edition.{Edition}
+use Rattle.heap_layout.specs.declared.fault.LayoutFault.{LayoutFault}
 use Rattle.comp_dump.specs.Dumped.{BuiltPage, Dumped}
-use Rattle.command_io.specs.Disk.{Disk, IsUnkept}
-use Rattle.command_io.specs.Dumps.{IsOfDumping, RefusedUncreated}
-use Rattle.command_io.specs.NewImages.{IsOfWritingImage, RefusedUnmade}
+use Rattle.comp_dump.specs.declared.fault.DumpFault.TheVariants.{Truncated, TrailingBytes, BadMagic, BadField, Device}
+use Rattle.comp_dump.specs.declared.fault.DumpFault.TheVariants as faults
+use Rattle.command_io.specs.Disk.{Disk, IsUnkept, LeavesCounted, RefusedUnmade}
+use Rattle.command_io.specs.Dumps.{IsOfDumping}
+use Rattle.command_io.specs.NewImages.{IsOfWritingImage}
 use Rattle.command_io.specs.Pictures.{IsOfDrawing}
 use Rattle.command_io.specs.Printing.{CountsPrint, RefusedUnprinted}
 use Rattle.command_io.specs.declared.refusal.CommandRefusal.{CommandRefusal}
@@ -31,8 +34,8 @@ uncounted_by old new (BadRoots line) same other = same
 uncounted_by old new OutOfMemory same other = same
 
 -- a refusal for the dump is not one for the output
-pub uncounted_dump : {F W : Type 0} (disk : Disk F W) (path bytes : List ℕ) (n : ℕ) (refusal : CommandRefusal) → IsOfDumping disk path bytes refusal → CountsPrint {T = Unit {0}} n n (Err refusal)
-uncounted_dump disk path bytes n refusal h = uncounted_by n n refusal refl (λ e. subst (IsOfDumping disk path bytes) e h)
+pub uncounted_dump : {F W : Type 0} (disk : Disk F W) (path bytes : List ℕ) (to : F) (n : ℕ) (refusal : CommandRefusal) → IsOfDumping disk path bytes to refusal → CountsPrint {T = Unit {0}} n n (Err refusal)
+uncounted_dump disk path bytes to n refusal h = uncounted_by n n refusal refl (λ e. subst (IsOfDumping disk path bytes to) e h)
 
 -- what was not printed leaves the output as it was
 pub unprinted : (before : Option (List ℕ)) (refusal : CommandRefusal) → RefusedUnprinted {T = Unit {0}} before before (Err refusal)
@@ -54,79 +57,60 @@ unprinted before (BadRoots line) = Keeps-refl before
 unprinted before OutOfMemory = Keeps-refl before
 
 -- what was refused before a file was begun
-pub uncreated : {F W : Type 0} (disk : Disk F W) (files : F) (refusal : CommandRefusal) → RefusedUncreated {T = Unit {0}} disk files files (Err refusal)
-uncreated disk files (Layout fault) = refl
-uncreated disk files (Mutator refused) = refl
-uncreated disk files (Sweep fault) = refl
-uncreated disk files (Trace fault) = refl
-uncreated disk files (Dump fault) = inl refl
-uncreated disk files (Audit fault) = refl
-uncreated disk files (Moved fault) = refl
-uncreated disk files (CannotWrite output) = inl refl
-uncreated disk files (CannotOpen input) = refl
-uncreated disk files (CannotCreate output) = inl refl
-uncreated disk files (ReadFailed input) = refl
-uncreated disk files CannotPrint = tt
-uncreated disk files (NoSuchWord index) = refl
-uncreated disk files (BadMarks line) = refl
-uncreated disk files (BadRoots line) = refl
-uncreated disk files OutOfMemory = inl refl
+pub unmade : {F W : Type 0} (disk : Disk F W) (from to : F) (refusal : CommandRefusal) → LeavesCounted disk from to refusal → RefusedUnmade {T = Unit {0}} disk from to (Err refusal)
+unmade disk from to (Layout fault) h = h
+unmade disk from to (Mutator refused) h = h
+unmade disk from to (Sweep fault) h = h
+unmade disk from to (Trace fault) h = h
+unmade disk from to (Dump fault) h = h
+unmade disk from to (Audit fault) h = h
+unmade disk from to (Moved fault) h = h
+unmade disk from to (CannotWrite output) h = h
+unmade disk from to (CannotOpen input) h = h
+unmade disk from to (CannotCreate output) h = h
+unmade disk from to (ReadFailed input) h = h
+unmade disk from to CannotPrint h = tt
+unmade disk from to (NoSuchWord index) h = h
+unmade disk from to (BadMarks line) h = h
+unmade disk from to (BadRoots line) h = h
+unmade disk from to OutOfMemory h = inl h
 
 -- a refusal for the dump, which was not kept
-pub uncreated_by : {F W : Type 0} (disk : Disk F W) (path bytes : List ℕ) (from to : F) (refusal : CommandRefusal) → IsUnkept disk from to → IsOfDumping disk path bytes refusal
-    → RefusedUncreated {T = Unit {0}} disk from to (Err refusal)
-uncreated_by disk path bytes from to (Layout fault) unkept h = absurd h
-uncreated_by disk path bytes from to (Mutator refused) unkept h = absurd h
-uncreated_by disk path bytes from to (Sweep fault) unkept h = absurd h
-uncreated_by disk path bytes from to (Trace fault) unkept h = absurd h
-uncreated_by disk path bytes from to (Dump fault) unkept h = unkept
-uncreated_by disk path bytes from to (Audit fault) unkept h = absurd h
-uncreated_by disk path bytes from to (Moved fault) unkept h = absurd h
-uncreated_by disk path bytes from to (CannotWrite output) unkept h = absurd h
-uncreated_by disk path bytes from to (CannotOpen input) unkept h = absurd h
-uncreated_by disk path bytes from to (CannotCreate output) unkept h = unkept
-uncreated_by disk path bytes from to (ReadFailed input) unkept h = absurd h
-uncreated_by disk path bytes from to CannotPrint unkept h = tt
-uncreated_by disk path bytes from to (NoSuchWord index) unkept h = absurd h
-uncreated_by disk path bytes from to (BadMarks line) unkept h = absurd h
-uncreated_by disk path bytes from to (BadRoots line) unkept h = absurd h
-uncreated_by disk path bytes from to OutOfMemory unkept h = unkept
+pub unmade_dump : {F W : Type 0} (disk : Disk F W) (path bytes : List ℕ) (from to : F) (refusal : CommandRefusal) → (refusal ≡ OutOfMemory → IsUnkept disk from to) → IsOfDumping disk path bytes to refusal
+    → RefusedUnmade {T = Unit {0}} disk from to (Err refusal)
+unmade_dump disk path bytes from to (Layout fault) unkept h = absurd h
+unmade_dump disk path bytes from to (Mutator refused) unkept h = absurd h
+unmade_dump disk path bytes from to (Sweep fault) unkept h = absurd h
+unmade_dump disk path bytes from to (Trace fault) unkept h = absurd h
+unmade_dump disk path bytes from to (Dump Device) unkept h = h.counted
+unmade_dump disk path bytes from to (Dump Truncated) unkept h = absurd h
+unmade_dump disk path bytes from to (Dump TrailingBytes) unkept h = absurd h
+unmade_dump disk path bytes from to (Dump BadMagic) unkept h = absurd h
+unmade_dump disk path bytes from to (Dump BadField) unkept h = absurd h
+unmade_dump disk path bytes from to (Dump faults.OutOfMemory) unkept h = absurd h
+unmade_dump disk path bytes from to (Audit fault) unkept h = absurd h
+unmade_dump disk path bytes from to (Moved fault) unkept h = absurd h
+unmade_dump disk path bytes from to (CannotWrite output) unkept h = absurd h
+unmade_dump disk path bytes from to (CannotOpen input) unkept h = absurd h
+unmade_dump disk path bytes from to (CannotCreate output) unkept h = h.2
+unmade_dump disk path bytes from to (ReadFailed input) unkept h = absurd h
+unmade_dump disk path bytes from to CannotPrint unkept h = tt
+unmade_dump disk path bytes from to (NoSuchWord index) unkept h = absurd h
+unmade_dump disk path bytes from to (BadMarks line) unkept h = absurd h
+unmade_dump disk path bytes from to (BadRoots line) unkept h = absurd h
+unmade_dump disk path bytes from to OutOfMemory unkept h = unkept refl
 
 -- a call of the output failed
-pub created_line : {F W : Type 0} (disk : Disk F W) (from to : F) (result : Result (Unit {0}) CommandRefusal) → OnErr result (result ≡ Err CannotPrint) → RefusedUncreated disk from to result
-created_line disk from to (Ok _) h = tt
-created_line disk from to (Err refusal) h =
+pub unmade_line : {F W : Type 0} (disk : Disk F W) (from to : F) (result : Result (Unit {0}) CommandRefusal) → OnErr result (result ≡ Err CannotPrint) → RefusedUnmade disk from to result
+unmade_line disk from to (Ok _) h = tt
+unmade_line disk from to (Err refusal) h =
     let is : refusal ≡ CannotPrint = cc in
-    subst (λ (r : CommandRefusal). RefusedUncreated {T = Unit {0}} disk from to (Err r)) (sym is) tt
-
--- a refused dump is refused as a new image may be
-pub unmade_too : {F W : Type 0} (disk : Disk F W) (from to : F) (result : Result (Unit {0}) CommandRefusal) → RefusedUncreated disk from to result → RefusedUnmade disk from to result
-unmade_too disk from to (Ok _) h = tt
-unmade_too disk from to (Err (Layout fault)) h = inl h
-unmade_too disk from to (Err (Mutator refused)) h = h
-unmade_too disk from to (Err (Sweep fault)) h = h
-unmade_too disk from to (Err (Trace fault)) h = h
-unmade_too disk from to (Err (Dump fault)) h = h
-unmade_too disk from to (Err (Audit fault)) h = h
-unmade_too disk from to (Err (Moved fault)) h = h
-unmade_too disk from to (Err (CannotWrite output)) h = h
-unmade_too disk from to (Err (CannotOpen input)) h = h
-unmade_too disk from to (Err (CannotCreate output)) h = h
-unmade_too disk from to (Err (ReadFailed input)) h = h
-unmade_too disk from to (Err CannotPrint) h = tt
-unmade_too disk from to (Err (NoSuchWord index)) h = h
-unmade_too disk from to (Err (BadMarks line)) h = h
-unmade_too disk from to (Err (BadRoots line)) h = h
-unmade_too disk from to (Err OutOfMemory) h = h
-
--- what was refused before a new image was begun
-pub unmade : {F W : Type 0} (disk : Disk F W) (files : F) (refusal : CommandRefusal) → RefusedUnmade {T = Unit {0}} disk files files (Err refusal)
-unmade disk files refusal = unmade_too disk files files (Err refusal) (uncreated disk files refusal)
+    subst (λ (r : CommandRefusal). RefusedUnmade {T = Unit {0}} disk from to (Err r)) (sym is) tt
 
 -- a refusal for the new image, which was not kept
-pub unmade_by : {F W : Type 0} (disk : Disk F W) (path bytes : List ℕ) (from to : F) (refusal : CommandRefusal) → IsUnkept disk from to → IsOfWritingImage disk path bytes refusal
+pub unmade_by : {F W : Type 0} (disk : Disk F W) (path bytes : List ℕ) (from to : F) (refusal : CommandRefusal) → (refusal ≡ OutOfMemory → IsUnkept disk from to) → IsOfWritingImage disk path bytes to refusal
     → RefusedUnmade {T = Unit {0}} disk from to (Err refusal)
-unmade_by disk path bytes from to (Layout fault) unkept h = inr (h.0, unkept)
+unmade_by disk path bytes from to (Layout fault) unkept h = subst (λ (f : LayoutFault). RefusedUnmade {T = Unit {0}} disk from to (Err (Layout f))) (sym h.0) h.1.counted
 unmade_by disk path bytes from to (Mutator refused) unkept h = absurd h
 unmade_by disk path bytes from to (Sweep fault) unkept h = absurd h
 unmade_by disk path bytes from to (Trace fault) unkept h = absurd h
@@ -135,24 +119,20 @@ unmade_by disk path bytes from to (Audit fault) unkept h = absurd h
 unmade_by disk path bytes from to (Moved fault) unkept h = absurd h
 unmade_by disk path bytes from to (CannotWrite output) unkept h = absurd h
 unmade_by disk path bytes from to (CannotOpen input) unkept h = absurd h
-unmade_by disk path bytes from to (CannotCreate output) unkept h = unkept
+unmade_by disk path bytes from to (CannotCreate output) unkept h = h.2
 unmade_by disk path bytes from to (ReadFailed input) unkept h = absurd h
 unmade_by disk path bytes from to CannotPrint unkept h = tt
 unmade_by disk path bytes from to (NoSuchWord index) unkept h = absurd h
 unmade_by disk path bytes from to (BadMarks line) unkept h = absurd h
 unmade_by disk path bytes from to (BadRoots line) unkept h = absurd h
-unmade_by disk path bytes from to OutOfMemory unkept h = unkept
-
--- a call of the output failed
-pub unmade_line : {F W : Type 0} (disk : Disk F W) (from to : F) (result : Result (Unit {0}) CommandRefusal) → OnErr result (result ≡ Err CannotPrint) → RefusedUnmade disk from to result
-unmade_line disk from to result h = unmade_too disk from to result (created_line disk from to result h)
+unmade_by disk path bytes from to OutOfMemory unkept h = unkept refl
 
 -- a refusal for the new image is not one for the output
-pub uncounted_image : {F W : Type 0} (disk : Disk F W) (path bytes : List ℕ) (n : ℕ) (refusal : CommandRefusal) → IsOfWritingImage disk path bytes refusal → CountsPrint {T = Unit {0}} n n (Err refusal)
-uncounted_image disk path bytes n refusal h = uncounted_by n n refusal refl (λ e. subst (IsOfWritingImage disk path bytes) e h)
+pub uncounted_image : {F W : Type 0} (disk : Disk F W) (path bytes : List ℕ) (to : F) (n : ℕ) (refusal : CommandRefusal) → IsOfWritingImage disk path bytes to refusal → CountsPrint {T = Unit {0}} n n (Err refusal)
+uncounted_image disk path bytes to n refusal h = uncounted_by n n refusal refl (λ e. subst (IsOfWritingImage disk path bytes to) e h)
 
 -- a refusal for the picture, which was not kept
-pub unmade_map : {F W : Type 0} (disk : Disk F W) (path : List ℕ) (from to : F) (refusal : CommandRefusal) → IsUnkept disk from to → IsOfDrawing disk path refusal
+pub unmade_map : {F W : Type 0} (disk : Disk F W) (path : List ℕ) (from to : F) (refusal : CommandRefusal) → (refusal ≡ OutOfMemory → IsUnkept disk from to) → IsOfDrawing disk path to refusal
     → RefusedUnmade {T = Unit {0}} disk from to (Err refusal)
 unmade_map disk path from to (Layout fault) unkept h = absurd h
 unmade_map disk path from to (Mutator refused) unkept h = absurd h
@@ -161,19 +141,19 @@ unmade_map disk path from to (Trace fault) unkept h = absurd h
 unmade_map disk path from to (Dump fault) unkept h = absurd h
 unmade_map disk path from to (Audit fault) unkept h = absurd h
 unmade_map disk path from to (Moved fault) unkept h = absurd h
-unmade_map disk path from to (CannotWrite output) unkept h = unkept
+unmade_map disk path from to (CannotWrite output) unkept h = h.1.1.counted
 unmade_map disk path from to (CannotOpen input) unkept h = absurd h
-unmade_map disk path from to (CannotCreate output) unkept h = unkept
+unmade_map disk path from to (CannotCreate output) unkept h = h.2
 unmade_map disk path from to (ReadFailed input) unkept h = absurd h
 unmade_map disk path from to CannotPrint unkept h = tt
 unmade_map disk path from to (NoSuchWord index) unkept h = absurd h
 unmade_map disk path from to (BadMarks line) unkept h = absurd h
 unmade_map disk path from to (BadRoots line) unkept h = absurd h
-unmade_map disk path from to OutOfMemory unkept h = unkept
+unmade_map disk path from to OutOfMemory unkept h = unkept refl
 
 -- and it is not one for the output
-pub uncounted_map : {F W : Type 0} (disk : Disk F W) (path : List ℕ) (n : ℕ) (refusal : CommandRefusal) → IsOfDrawing disk path refusal → CountsPrint {T = Unit {0}} n n (Err refusal)
-uncounted_map disk path n refusal h = uncounted_by n n refusal refl (λ e. subst (IsOfDrawing disk path) e h)
+pub uncounted_map : {F W : Type 0} (disk : Disk F W) (path : List ℕ) (to : F) (n : ℕ) (refusal : CommandRefusal) → IsOfDrawing disk path to refusal → CountsPrint {T = Unit {0}} n n (Err refusal)
+uncounted_map disk path to n refusal h = uncounted_by n n refusal refl (λ e. subst (IsOfDrawing disk path to) e h)
 
 -- dumps that have the same parts are the same
 pub same_parts : (e e' : Edition) (m m' n n' t t' : ℕ) (r r' : List ℕ) (p p' : List (Option BuiltPage)) (b b' : List (List ℕ))

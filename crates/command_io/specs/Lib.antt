@@ -1,5 +1,9 @@
 pub mod Disk
+pub mod Counting
+pub mod Flushing
+pub mod Keeping
 pub mod Printing
+pub mod Reading
 pub mod Images
 pub mod ImageParts
 pub mod Dumps

@@ -15,7 +15,7 @@ AreMarksOf marks known = SomeText (λ text. marks_of text ≡ Ok marks) known
 abbrev pub AreMarksAt : {F W : Type 0} → Disk F W → List ℕ → List ℕ → Type 0
 AreMarksAt disk path marks = SomeFile disk inputs.Marks path (AreMarksOf marks)
 
--- why there are no marks: a call of the reader failed, which `CountsText` counts; or this line is the first that is no
+-- why there are no marks: a call of the reader failed, which `CountsRead` counts; or this line is the first that is no
 -- mark; or memory ran out
 abbrev pub RefusesMarksText : CommandRefusal → Option (List ℕ) → Type 0
 RefusesMarksText (ReadFailed inputs.Marks) known = Unit {0}

@@ -9,13 +9,15 @@ use Rattle.command_io.specs.declared.refusal.CommandRefusal.TheVariants.{CannotC
 abbrev pub DrawsWhole : {F W : Type 0} → Disk F W → List ℕ → F → Type 0
 DrawsWhole disk path to = (picture : List ℕ) × WritesWhole disk outputs.Map path picture to
 
--- a beginning of some bytes, those of a picture, was written, and then one call of their writer failed
-abbrev pub DrawsBeginning : {F W : Type 0} → Disk F W → List ℕ → Type 0
-DrawsBeginning disk path = (picture : List ℕ) × WritesBeginning disk outputs.Map path picture
+-- a beginning of some bytes, those of a picture, was written, and then one call of their writer failed, which these
+-- files have counted
+abbrev pub DrawsBeginning : {F W : Type 0} → Disk F W → List ℕ → F → Type 0
+DrawsBeginning disk path to = (picture : List ℕ) × WritesBeginning disk outputs.Map path picture to
 
--- why a picture was not written: there is no place for it, or a call of its writer failed, or memory ran out
-abbrev pub IsOfDrawing : {F W : Type 0} → Disk F W → List ℕ → CommandRefusal → Type 0
-IsOfDrawing disk path (CannotCreate output) = (output ≡ outputs.Map) × disk.bars outputs.Map path
-IsOfDrawing disk path (CannotWrite output) = (output ≡ outputs.Map) × DrawsBeginning disk path
-IsOfDrawing disk path OutOfMemory = Unit {0}
-IsOfDrawing disk path _ = ⊥
+-- why a picture was not written: there is no place for it, or a call of its writer failed, or memory ran out; the files
+-- have counted the call that failed
+abbrev pub IsOfDrawing : {F W : Type 0} → Disk F W → List ℕ → F → CommandRefusal → Type 0
+IsOfDrawing disk path to (CannotCreate output) = (output ≡ outputs.Map) × disk.bars outputs.Map path × disk.counts 1 to
+IsOfDrawing disk path to (CannotWrite output) = (output ≡ outputs.Map) × DrawsBeginning disk path to
+IsOfDrawing disk path to OutOfMemory = Unit {0}
+IsOfDrawing disk path to _ = ⊥

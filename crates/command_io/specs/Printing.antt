@@ -1,5 +1,5 @@
 -- What is printed, and what a refused call leaves of the output.
-use Rattle.std.specs.Prelude.{◌≡◌, ℕ, ◌+◌, List, [], ◌∷◌, ◌++◌, Option, Result, Ok, Err, codes}
+use Rattle.std.specs.Prelude.{◌≡◌, ℕ, ◌+◌, Bool, true, List, [], ◌∷◌, ◌++◌, Option, Result, Ok, Err, codes}
 use Rattle.std.specs.Fmt.{decimal}
 use Rattle.std.specs.Io.KnownBytes.{Keeps}
 use Rattle.std.specs.Str.{trim_end}
@@ -56,3 +56,8 @@ abbrev pub RefusedUnprinted : {T : Type 0} → Option (List ℕ) → Option (Lis
 RefusedUnprinted before after (Ok _) = Unit {0}
 RefusedUnprinted before after (Err CannotPrint) = Unit {0}
 RefusedUnprinted before after (Err _) = Keeps before after
+
+-- a refusal for another cause than the output leaves an output flushed that was flushed before: whatever was printed for
+-- it was flushed
+abbrev pub LeavesFlushed : Bool → Bool → CommandRefusal → Type 0
+LeavesFlushed before after refusal = (refusal ≡ CannotPrint → ⊥) → before ≡ true → after ≡ true

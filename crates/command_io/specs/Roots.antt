@@ -16,7 +16,7 @@ AreRootsOf mutators roots known = SomeText (λ text. new_roots_of mutators text 
 abbrev pub AreRootsAt : {F W : Type 0} → Disk F W → List ℕ → ℕ → List NewRoot → Type 0
 AreRootsAt disk path mutators roots = SomeFile disk inputs.Roots path (AreRootsOf mutators roots)
 
--- why there are no roots: a call of the reader failed, which `CountsText` counts; or this line is the first that is no
+-- why there are no roots: a call of the reader failed, which `CountsRead` counts; or this line is the first that is no
 -- root; or memory ran out
 abbrev pub RefusesRootsText : ℕ → CommandRefusal → Option (List ℕ) → Type 0
 RefusesRootsText mutators (ReadFailed inputs.Roots) known = Unit {0}

@@ -42,13 +42,7 @@ RefusesTextAt disk path mutators roots (CannotOpen inputs.Trace) = disk.lacks in
 RefusesTextAt disk path mutators roots OutOfMemory = Unit {0}
 RefusesTextAt disk path mutators roots refusal = SomeFile disk inputs.Trace path (RefusesText mutators roots refusal)
 
--- a call answers `ReadFailed` if and only if one more call of the reader failed
-abbrev pub CountsText : {T : Type 0} → ℕ → ℕ → Result T CommandRefusal → Type 0
-CountsText before after (Ok _) = after ≡ before
-CountsText before after (Err (ReadFailed input)) = after ≡ before + 1
-CountsText before after (Err _) = after ≡ before
-
--- the same of `Failed`, for the text of a trace or of marks
+-- one more call of the reader failed if the answer is `Failed`, and otherwise none
 abbrev pub CountsUnread : {T : Type 0} → ℕ → ℕ → Result T Unread → Type 0
 CountsUnread before after (Ok _) = after ≡ before
 CountsUnread before after (Err unread.Failed) = after ≡ before + 1

@@ -1,10 +1,12 @@
 //! Reads the texts of marks.
 ghost use Rattle.std.specs.Prelude.{◌-◌, ◌^◌, ◌<◌, IfOk, IfErr};
 ghost use Rattle.heap_layout.specs.Counted.{inner_of, failures_of};
+ghost use Rattle.command_io.specs.Disk.{LeavesRead};
 ghost use Rattle.command_io.specs.Marks.{AreMarksAt, AreMarksOf, RefusesMarksAt, RefusesMarksText};
-ghost use Rattle.command_io.specs.Texts.{CountsText};
+ghost use Rattle.command_io.specs.Reading.{CountsRead};
 
 use crate::opening::Files;
+use crate::reading::end_reading;
 use crate::refusal::{CommandRefusal, Input};
 use crate::texts::{Unread, text_in};
 use comp_trace::{MarksFault, read_marks};
@@ -14,12 +16,18 @@ use std::io::Read;
 
 /// Reads the marks whose text is at a path. Refuses if the file cannot be opened or read, if a line of it is no mark,
 /// with the number of the first such line, and if memory runs out.
-pub fn marks_at<F: Files>(alloc: Global, files: &F, path: &str) -> Result<Vec<u32>, CommandRefusal>
-    ensures marks { IfOk result (λ marks. AreMarksAt (F.disk files.now) path.now marks.items) }
-    ensures cause { IfErr result (RefusesMarksAt (F.disk files.now) path.now) }
+pub fn marks_at<F: Files>(
+    alloc: Global,
+    files: &mut F,
+    path: &str,
+) -> Result<Vec<u32>, CommandRefusal>
+    ensures marks { IfOk result (λ marks. AreMarksAt (F.disk files.old) path.now marks.items) }
+    ensures cause { IfErr result (RefusesMarksAt (F.disk files.old) path.now) }
+    ensures left { LeavesRead (F.disk files.old) files.old files.new result }
 {
     let mut reader = Counted::new(files.open(Input::Marks, path)?);
-    marks_in(alloc, &mut reader)
+    let read = marks_in(alloc, &mut reader);
+    end_reading(files, reader, read)
 }
 
 // Reads marks to the end of the reader. Refuses if a call of the reader fails, if a line is no mark, with the number
@@ -28,7 +36,7 @@ fn marks_in<S: Read>(alloc: Global, r: &mut Counted<S>) -> Result<Vec<u32>, Comm
     requires read { failures_of r.old < 2 ^ 64 - 1 }
     ensures marks { IfOk result (λ marks. AreMarksOf marks.items (S.remaining (inner_of r.old))) }
     ensures cause { IfErr result (λ refusal. RefusesMarksText refusal (S.remaining (inner_of r.old))) }
-    ensures reads { CountsText (failures_of r.old) (failures_of r.new) result }
+    ensures reads { CountsRead (failures_of r.old) (failures_of r.new) result }
 {
     let text = match text_in(alloc, r) {
         Ok(text) => text,

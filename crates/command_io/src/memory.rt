@@ -1,9 +1,13 @@
 //! Files in memory.
 ghost use Rattle.std.specs.Prelude.{◌≡◌, ℕ, List, None, refl, option_map, OnOk, OnErr};
-ghost use Rattle.command_io.specs.Memory.{bytes_at, memory_disk, put_after, HasPut, WrittenIsThere};
+ghost use Rattle.heap_layout.specs.Counted.{failures_of};
+ghost use Rattle.command_io.specs.Flushing.{counted_in};
+ghost use Rattle.command_io.specs.Memory.{bytes_at, counted_after, memory_disk, put_after, HasPut, WrittenIsThere};
 
+use crate::flushed::Flushed;
 use crate::opening::Files;
 use crate::refusal::{CommandRefusal, Input, Output};
+use heap_layout::Counted;
 use std::alloc::{AllocError, Global};
 use std::collections::LinkedList;
 use std::io::Cursor;
@@ -70,20 +74,38 @@ impl Files for MemoryFiles {
 
     ghost begun_puts = { put_after };
 
-    fn open(&self, input: Input, path: &str) -> Result<Cursor<Vec<u8>>, CommandRefusal> {
+    ghost begun_counts = { counted_after };
+
+    fn open(&mut self, input: Input, path: &str) -> Result<Cursor<Vec<u8>>, CommandRefusal> {
         match self.bytes_at(path) {
             Some(bytes) => Ok(Cursor::new(bytes.clone()?)),
             None => Err(CommandRefusal::CannotOpen(input)),
         }
     }
 
+    fn take_back(&mut self, _read: Counted<Cursor<Vec<u8>>>)
+        ensures { (memory_disk self.old).counts (failures_of _read) self.new }
+    {}
+
     fn create(&mut self, _output: Output, _path: &str) -> Result<Vec<u8>, CommandRefusal> {
         Ok(Vec::new(self.alloc))
     }
 
-    fn keep(&mut self, _output: Output, path: &str, written: Vec<u8>) -> Result<(), AllocError> {
-        self.put(path, written)
+    fn keep(
+        &mut self,
+        _output: Output,
+        path: &str,
+        written: Flushed<Vec<u8>>,
+    ) -> Result<(), AllocError>
+        ensures kept { OnOk result ((memory_disk self.old).puts _output path.now (counted_in written) self.new) }
+        ensures unkept { OnErr result (self.new ≡ self.old) }
+    {
+        self.put(path, written.into_inner())
     }
+
+    fn give_up(&mut self, _written: Counted<Vec<u8>>)
+        ensures { (memory_disk self.old).counts (failures_of _written) self.new }
+    {}
 }
 
 /// What was written whole to a path of files in memory is at that path, and each other path has what it had.

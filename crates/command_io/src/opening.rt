@@ -1,10 +1,16 @@
 //! How the program opens the files that it reads, and creates those that it makes.
 ghost use Rattle.std.specs.Prelude.{◌≡◌, ℕ, List, refl, IfOk, IfErr, OnOk, OnErr};
+ghost use Rattle.heap_layout.specs.Counted.{failures_of};
+ghost use Rattle.heap_layout.specs.declared.counted.Counted.{Counted as ACounted};
 ghost use Rattle.command_io.specs.declared.refusal.Output.{Output as AnOutput};
-ghost use Rattle.command_io.specs.Disk.{unknown, Disk, IsOfCreating, IsOfOpening};
+ghost use Rattle.command_io.specs.Counting.{counted_once_begun, counting, more_by};
+ghost use Rattle.command_io.specs.Disk.{AfterCreating, Disk, IsOfCreating, IsOfOpening, LeavesRead};
+ghost use Rattle.command_io.specs.Flushing.{counted_in};
 
+use crate::flushed::Flushed;
 use crate::output_files::{OutputFile, create_file};
 use crate::refusal::{CommandRefusal, Input, Output};
+use heap_layout::Counted;
 use std::alloc::{AllocError, Global};
 use std::io::{BufReader, Read, Write};
 use std::{fs, rt};
@@ -18,36 +24,71 @@ pub trait Files {
     // what is known of the files
     ghost disk: { Self → Disk Self Self.Writer };
 
-    /// Opens a file, to be read from its first byte.
-    fn open(&self, input: Input, path: &str) -> Result<Self::Reader, CommandRefusal>
-        ensures given { IfOk result (λ reader. (disk self.now).holds input path.now (Self.Reader.remaining reader)) }
-        ensures cause { IfErr result (IsOfOpening input ((disk self.now).lacks input path.now)) };
+    /// Opens a file, to be read from its first byte. A refusal other than for memory counts a failed call.
+    fn open(&mut self, input: Input, path: &str) -> Result<Self::Reader, CommandRefusal>
+        ensures after { LeavesRead (disk self.old) self.old self.new result }
+        ensures given { IfOk result (λ reader. (disk self.old).holds input path.now (Self.Reader.remaining reader)) }
+        ensures cause { IfErr result (IsOfOpening input ((disk self.old).lacks input path.now)) };
 
-    /// Begins a file that is to be made at a path: gives its writer, to be written from its first byte.
+    /// Takes back a reader. Its calls that failed are counted.
+    fn take_back(&mut self, read: Counted<Self::Reader>)
+        ensures { (disk self.old).counts (failures_of read) self.new };
+
+    /// Begins a file that is to be made at a path: gives its writer, to be written from its first byte. A refusal other
+    /// than for memory counts a failed call.
     fn create(&mut self, output: Output, path: &str) -> Result<Self::Writer, CommandRefusal>
-        ensures begun { (disk self.old).begins self.new }
+        ensures after { AfterCreating (disk self.old) self.new result }
         ensures given { IfOk result ((disk self.old).makes output path.now) }
         ensures cause { IfErr result (IsOfCreating output ((disk self.old).bars output path.now)) };
 
-    /// Keeps, at a path, what a writer has taken that this path gave, and that was flushed after its last byte. It
-    /// replaces what was there. If memory runs out, the files stay as they were.
-    fn keep(&mut self, output: Output, path: &str, written: Self::Writer) -> Result<(), AllocError>
-        ensures kept { OnOk result ((disk self.old).puts output path.now written self.new) }
+    /// Keeps, at a path, all that a writer has taken that this path gave. It replaces what was there. The calls of the
+    /// writer that failed are counted. If memory runs out, the files stay as they were.
+    fn keep(
+        &mut self,
+        output: Output,
+        path: &str,
+        written: Flushed<Self::Writer>,
+    ) -> Result<(), AllocError>
+        ensures kept { OnOk result ((disk self.old).puts output path.now (counted_in written) self.new) }
         ensures unkept { OnErr result (self.new ≡ self.old) };
+
+    /// Gives up a writer: nothing of what it took is kept. Its calls that failed are counted.
+    fn give_up(&mut self, written: Counted<Self::Writer>)
+        ensures { (disk self.old).counts (failures_of written) self.new };
 
     // what a writer has taken is what its own contract says
     ghost contents_are: { (files : Self) (w : Self.Writer) → (disk files).contents w ≡ Self.Writer.contents w };
 
     // what is kept once a file was begun is kept in the files as they were before
-    ghost begun_puts: { (from between to : Self) (output : AnOutput) (path : List ℕ) (w : Self.Writer)
+    ghost begun_puts: { (from between to : Self) (output : AnOutput) (path : List ℕ) (w : ACounted Self.Writer)
         → (disk from).begins between → (disk between).puts output path w to → (disk from).puts output path w to };
+
+    // what is counted once a file was begun is counted in the files as they were before
+    ghost begun_counts: { (from between to : Self) (n : ℕ)
+        → (disk from).begins between → (disk between).counts n to → (disk from).counts n to };
 }
 
 /// The files of a runtime, read and written through buffers. As long as a file that is made is not whole, a regular
 /// file at its path stays as it was.
 #[derive(Drop)]
 pub struct RuntimeFiles<'a, R> {
-    pub rt: &'a R,
+    rt: &'a R,
+    // How many calls failed that opened or created a file, or that read or wrote one. The count saturates.
+    failures: u64,
+}
+
+impl<'a, R> RuntimeFiles<'a, R> {
+    /// The files of this runtime, of which no call has failed yet.
+    pub fn new(rt: &'a R) -> RuntimeFiles<'a, R> {
+        RuntimeFiles { rt, failures: 0 }
+    }
+
+    // Counts failed calls.
+    fn count(&mut self, failures: u64)
+        ensures { self.new.failures ≡ more_by self.old.failures failures }
+    {
+        self.failures = self.failures.saturating_add(failures);
+    }
 }
 
 impl<'a, R: rt::Files + AllocGlobal> Files for RuntimeFiles<'a, R> {
@@ -56,15 +97,25 @@ impl<'a, R: rt::Files + AllocGlobal> Files for RuntimeFiles<'a, R> {
     type Writer = OutputFile<'a, R>;
 
     // The kit's contracts do not say which file a path leads to, nor what a file holds or takes.
-    ghost disk = { λ _. unknown };
+    ghost disk = { counting (λ files. files.failures) };
 
     ghost contents_are = { λ _ _. refl };
 
-    ghost begun_puts = { λ _ _ _ _ _ _ _ _. tt };
+    ghost begun_puts = { λ from between to _ _ w. counted_once_begun (λ files. files.failures) from between to (failures_of w) };
 
-    fn open(&self, input: Input, path: &str) -> Result<BufReader<R::File, Global>, CommandRefusal> {
-        let Ok(file) = fs::open(self.rt, path) else {
-            return Err(CommandRefusal::CannotOpen(input));
+    ghost begun_counts = { counted_once_begun (λ files. files.failures) };
+
+    fn open(
+        &mut self,
+        input: Input,
+        path: &str,
+    ) -> Result<BufReader<R::File, Global>, CommandRefusal> {
+        let file = match fs::open(self.rt, path) {
+            Ok(file) => file,
+            Err(_) => {
+                self.count(1);
+                return Err(CommandRefusal::CannotOpen(input));
+            }
         };
         match BufReader::new(self.rt.alloc(), file) {
             Ok(reader) => Ok(reader),
@@ -72,8 +123,18 @@ impl<'a, R: rt::Files + AllocGlobal> Files for RuntimeFiles<'a, R> {
         }
     }
 
+    fn take_back(&mut self, read: Counted<BufReader<R::File, Global>>)
+        ensures { self.new.failures ≡ more_by self.old.failures (failures_of read) }
+    {
+        self.count(read.failures());
+    }
+
     fn create(&mut self, output: Output, path: &str) -> Result<OutputFile<'a, R>, CommandRefusal> {
-        create_file(self.rt, path, output)
+        let made = create_file(self.rt, path, output);
+        if let Err(CommandRefusal::CannotCreate(_)) = &made {
+            self.count(1);
+        }
+        made
     }
 
     // The first flush of the writer has put the file at its path.
@@ -81,8 +142,18 @@ impl<'a, R: rt::Files + AllocGlobal> Files for RuntimeFiles<'a, R> {
         &mut self,
         _output: Output,
         _path: &str,
-        _written: OutputFile<'a, R>,
-    ) -> Result<(), AllocError> {
+        written: Flushed<OutputFile<'a, R>>,
+    ) -> Result<(), AllocError>
+        ensures kept { OnOk result (self.new.failures ≡ more_by self.old.failures (failures_of (counted_in written.entry))) }
+        ensures unkept { OnErr result (self.new ≡ self.old) }
+    {
+        self.count(written.failures());
         Ok(())
+    }
+
+    fn give_up(&mut self, written: Counted<OutputFile<'a, R>>)
+        ensures { self.new.failures ≡ more_by self.old.failures (failures_of written.entry) }
+    {
+        self.count(written.failures());
     }
 }

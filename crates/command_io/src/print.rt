@@ -2,11 +2,12 @@
 //! `u64::MAX` calls have failed so far.
 //!
 //! All is printed in parts: std's `write!` promises nothing of an error, so a refused print could not be traced to a
-//! call that failed. A part is not tried again after an error.
+//! call that failed. A part is not tried again after an error: what a refused print leaves is a beginning of its text.
 ghost use Rattle.std.specs.Prelude.{◌≡◌, ◌-◌, ◌^◌, ◌<◌, true, OnOk, OnErr, Err};
 ghost use Rattle.std.specs.Fmt.{decimal};
 ghost use Rattle.std.specs.Io.KnownBytes.{Appends, Keeps};
 ghost use Rattle.heap_layout.specs.Counted.{inner_of, failures_of, is_flushed_of, writer_of};
+ghost use Rattle.heap_layout.specs.Writing.{AppendsSome};
 ghost use Rattle.command_io.specs.Printing.{help_lines, named, numbered, CountsPrint};
 
 use crate::refusal::CommandRefusal;
@@ -15,9 +16,11 @@ use itoa::Buffer;
 use std::io::Write;
 
 /// Prints bytes.
+#[tactic(auto, using(crate::proofs::Begun::of_part))]
 pub fn print_bytes<O: Write>(bytes: &[u8], out: &mut Counted<&mut O>) -> Result<(), CommandRefusal>
     requires { failures_of out.old < 2 ^ 64 - 1 }
     ensures printed { OnOk result (Appends (O.contents (inner_of out.old).now) (O.contents (inner_of out.new).now) bytes.now) }
+    ensures begun { OnErr result (AppendsSome (O.contents (inner_of out.old).now) (O.contents (inner_of out.new).now) bytes.now) }
     ensures cause { OnErr result (result ≡ Err CommandRefusal.CannotPrint) }
     ensures counts { CountsPrint (failures_of out.old) (failures_of out.new) result }
     ensures same_writer { writer_of out.new ≡ writer_of out.old }
@@ -30,6 +33,7 @@ pub fn print_bytes<O: Write>(bytes: &[u8], out: &mut Counted<&mut O>) -> Result<
 pub fn print_text<O: Write>(text: &str, out: &mut Counted<&mut O>) -> Result<(), CommandRefusal>
     requires { failures_of out.old < 2 ^ 64 - 1 }
     ensures printed { OnOk result (Appends (O.contents (inner_of out.old).now) (O.contents (inner_of out.new).now) text.now) }
+    ensures begun { OnErr result (AppendsSome (O.contents (inner_of out.old).now) (O.contents (inner_of out.new).now) text.now) }
     ensures cause { OnErr result (result ≡ Err CommandRefusal.CannotPrint) }
     ensures counts { CountsPrint (failures_of out.old) (failures_of out.new) result }
     ensures same_writer { writer_of out.new ≡ writer_of out.old }
@@ -41,6 +45,7 @@ pub fn print_text<O: Write>(text: &str, out: &mut Counted<&mut O>) -> Result<(),
 pub fn print_digits<O: Write>(number: u64, out: &mut Counted<&mut O>) -> Result<(), CommandRefusal>
     requires { failures_of out.old < 2 ^ 64 - 1 }
     ensures printed { OnOk result (Appends (O.contents (inner_of out.old).now) (O.contents (inner_of out.new).now) (decimal number)) }
+    ensures begun { OnErr result (AppendsSome (O.contents (inner_of out.old).now) (O.contents (inner_of out.new).now) (decimal number)) }
     ensures cause { OnErr result (result ≡ Err CommandRefusal.CannotPrint) }
     ensures counts { CountsPrint (failures_of out.old) (failures_of out.new) result }
     ensures same_writer { writer_of out.new ≡ writer_of out.old }
@@ -57,6 +62,7 @@ pub fn print_line<O: Write>(
 ) -> Result<(), CommandRefusal>
     requires { failures_of out.old < 2 ^ 64 - 1 }
     ensures printed { OnOk result (Appends (O.contents (inner_of out.old).now) (O.contents (inner_of out.new).now) (named name.now number)) }
+    ensures begun { OnErr result (AppendsSome (O.contents (inner_of out.old).now) (O.contents (inner_of out.new).now) (named name.now number)) }
     ensures cause { OnErr result (result ≡ Err CommandRefusal.CannotPrint) }
     ensures counts { CountsPrint (failures_of out.old) (failures_of out.new) result }
     ensures same_writer { writer_of out.new ≡ writer_of out.old }
@@ -77,6 +83,8 @@ pub fn print_numbered<O: Write>(
     requires { failures_of out.old < 2 ^ 64 - 1 }
     ensures printed { OnOk result (Appends (O.contents (inner_of out.old).now) (O.contents (inner_of out.new).now)
         (numbered name.now number second.now value)) }
+    ensures begun { OnErr result (AppendsSome (O.contents (inner_of out.old).now) (O.contents (inner_of out.new).now)
+        (numbered name.now number second.now value)) }
     ensures cause { OnErr result (result ≡ Err CommandRefusal.CannotPrint) }
     ensures counts { CountsPrint (failures_of out.old) (failures_of out.new) result }
     ensures same_writer { writer_of out.new ≡ writer_of out.old }
@@ -90,6 +98,7 @@ pub fn print_numbered<O: Write>(
 pub fn print_help<O: Write>(text: &str, out: &mut Counted<&mut O>) -> Result<(), CommandRefusal>
     requires { failures_of out.old < 2 ^ 64 - 1 }
     ensures printed { OnOk result (Appends (O.contents (inner_of out.old).now) (O.contents (inner_of out.new).now) (help_lines text.now)) }
+    ensures begun { OnErr result (AppendsSome (O.contents (inner_of out.old).now) (O.contents (inner_of out.new).now) (help_lines text.now)) }
     ensures cause { OnErr result (result ≡ Err CommandRefusal.CannotPrint) }
     ensures counts { CountsPrint (failures_of out.old) (failures_of out.new) result }
     ensures same_writer { writer_of out.new ≡ writer_of out.old }

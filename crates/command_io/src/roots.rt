@@ -2,10 +2,12 @@
 ghost use Rattle.std.specs.Prelude.{◌-◌, ◌^◌, ◌<◌, All, IfOk, IfErr};
 ghost use Rattle.heap_layout.specs.Counted.{inner_of, failures_of};
 ghost use Rattle.comp_trace.specs.Roots.{IsRootWithin};
+ghost use Rattle.command_io.specs.Disk.{LeavesRead};
 ghost use Rattle.command_io.specs.Roots.{AreRootsAt, AreRootsOf, RefusesRootsAt, RefusesRootsText};
-ghost use Rattle.command_io.specs.Texts.{CountsText};
+ghost use Rattle.command_io.specs.Reading.{CountsRead};
 
 use crate::opening::Files;
+use crate::reading::end_reading;
 use crate::refusal::{CommandRefusal, Input};
 use crate::texts::{Unread, text_in};
 use comp_trace::{NewRoot, RootsFault, read_roots};
@@ -17,16 +19,18 @@ use std::io::Read;
 /// if a line of it is no root, with the number of the first such line, and if memory runs out.
 pub fn roots_at<F: Files>(
     alloc: Global,
-    files: &F,
+    files: &mut F,
     path: &str,
     mutators: u8,
 ) -> Result<Vec<NewRoot>, CommandRefusal>
-    ensures roots { IfOk result (λ roots. AreRootsAt (F.disk files.now) path.now mutators roots.items) }
+    ensures roots { IfOk result (λ roots. AreRootsAt (F.disk files.old) path.now mutators roots.items) }
     ensures within { IfOk result (λ roots. All (IsRootWithin mutators) roots.items) }
-    ensures cause { IfErr result (RefusesRootsAt (F.disk files.now) path.now mutators) }
+    ensures cause { IfErr result (RefusesRootsAt (F.disk files.old) path.now mutators) }
+    ensures left { LeavesRead (F.disk files.old) files.old files.new result }
 {
     let mut reader = Counted::new(files.open(Input::Roots, path)?);
-    roots_in(alloc, &mut reader, mutators)
+    let read = roots_in(alloc, &mut reader, mutators);
+    end_reading(files, reader, read)
 }
 
 // Reads roots to the end of the reader, for this number of mutators. Refuses if a call of the reader fails, if a line
@@ -40,7 +44,7 @@ fn roots_in<S: Read>(
     ensures roots { IfOk result (λ roots. AreRootsOf mutators roots.items (S.remaining (inner_of r.old))) }
     ensures within { IfOk result (λ roots. All (IsRootWithin mutators) roots.items) }
     ensures cause { IfErr result (λ refusal. RefusesRootsText mutators refusal (S.remaining (inner_of r.old))) }
-    ensures reads { CountsText (failures_of r.old) (failures_of r.new) result }
+    ensures reads { CountsRead (failures_of r.old) (failures_of r.new) result }
 {
     let text = match text_in(alloc, r) {
         Ok(text) => text,

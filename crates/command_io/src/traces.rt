@@ -2,9 +2,12 @@
 ghost use Rattle.std.specs.Prelude.{◌≡◌, ◌-◌, ◌^◌, ◌<◌, IfOk, IfErr};
 ghost use Rattle.heap_layout.specs.Counted.{inner_of, failures_of};
 ghost use Rattle.comp_trace.specs.Traces.{lines_of, mutators_of, roots_of};
-ghost use Rattle.command_io.specs.Texts.{CountsText, HasLinesAt, IsTextOf, RefusesText, RefusesTextAt};
+ghost use Rattle.command_io.specs.Disk.{LeavesRead};
+ghost use Rattle.command_io.specs.Reading.{CountsRead};
+ghost use Rattle.command_io.specs.Texts.{HasLinesAt, IsTextOf, RefusesText, RefusesTextAt};
 
 use crate::opening::Files;
+use crate::reading::end_reading;
 use crate::refusal::{CommandRefusal, Input};
 use crate::texts::{Unread, text_in};
 use comp_trace::{Trace, TraceFault, parse};
@@ -16,17 +19,19 @@ use std::io::Read;
 /// be opened or read, if its text is no such trace, with its first fault, and if memory runs out.
 pub fn trace_at<F: Files>(
     alloc: Global,
-    files: &F,
+    files: &mut F,
     path: &str,
     mutators: u8,
     roots: u32,
 ) -> Result<Trace, CommandRefusal>
-    ensures lines { IfOk result (λ trace. HasLinesAt (F.disk files.now) path.now mutators roots (lines_of trace)) }
+    ensures lines { IfOk result (λ trace. HasLinesAt (F.disk files.old) path.now mutators roots (lines_of trace)) }
     ensures counts { IfOk result (λ trace. (mutators_of trace ≡ mutators) × (roots_of trace ≡ roots)) }
-    ensures cause { IfErr result (RefusesTextAt (F.disk files.now) path.now mutators roots) }
+    ensures cause { IfErr result (RefusesTextAt (F.disk files.old) path.now mutators roots) }
+    ensures left { LeavesRead (F.disk files.old) files.old files.new result }
 {
     let mut reader = Counted::new(files.open(Input::Trace, path)?);
-    trace_in(alloc, &mut reader, mutators, roots)
+    let read = trace_in(alloc, &mut reader, mutators, roots);
+    end_reading(files, reader, read)
 }
 
 // Reads a trace to the end of the reader, for these numbers of mutators and shared roots.
@@ -40,7 +45,7 @@ fn trace_in<S: Read>(
     ensures lines { IfOk result (λ trace. IsTextOf mutators roots (lines_of trace) (S.remaining (inner_of r.old))) }
     ensures counts { IfOk result (λ trace. (mutators_of trace ≡ mutators) × (roots_of trace ≡ roots)) }
     ensures cause { IfErr result (λ refusal. RefusesText mutators roots refusal (S.remaining (inner_of r.old))) }
-    ensures reads { CountsText (failures_of r.old) (failures_of r.new) result }
+    ensures reads { CountsRead (failures_of r.old) (failures_of r.new) result }
 {
     let text = match text_in(alloc, r) {
         Ok(text) => text,

@@ -3,16 +3,19 @@ use Rattle.std.proofs.Common.{◌≡◌, ℕ, Bool, false, List, Option, Result,
 use Rattle.std.proofs.KnownBytes.{Appends-kept}
 use Rattle.std.specs.Io.KnownBytes.{Appends, Keeps}
 use Rattle.heap_layout.specs.Heap.{Heap}
+use Rattle.heap_layout.specs.Writing.{AppendsSome}
 use Rattle.comp_dump.specs.Dumped.{Dumped}
 use Rattle.command_line.specs.Runs as runs
-use Rattle.commands.specs.Audits.{passed_lines, HasPassed, IsDumpAt, IsDumpIn, IsPrinted, Passes, RefusesAudit, SomeAudit}
+use Rattle.commands.specs.Audits.{passed_lines, HasPassed, IsBegun, IsDumpAt, IsDumpIn, Passes, RefusesAudit, SomeAudit}
 use Rattle.command_io.specs.Disk.{Disk, SomeFile}
 use Rattle.command_io.specs.Images.{IsHeapAt}
 use Rattle.command_io.specs.declared.refusal.Input.TheVariants as inputs
 use Rattle.command_io.specs.Printing.{named, RefusedUnprinted}
 use Rattle.command_io.specs.declared.refusal.CommandRefusal.{CommandRefusal}
 use Rattle.command_io.specs.declared.refusal.CommandRefusal.TheVariants.{CannotPrint}
+use Rattle.command_io.proofs.Begun.{failed_by}
 use Rattle.command_io.proofs.Imaged.{of_image}
+use Rattle.command_io.proofs.Written.{unflushed}
 
 module _ {F W : Type 0} (disk : Disk F W) (asked : runs.Audit) where
   -- what holds of the heap and of the dump that were read holds of those of the files
@@ -40,8 +43,9 @@ module _ {F W : Type 0} (disk : Disk F W) (asked : runs.Audit) where
       (λ heap dump h. record { judged = h.judged; printed = Appends-kept before between after _ h.printed kept }) passed
 
   -- and if it is not
-  pub unflushed_audit : (before between : Option (List ℕ)) → SomeAudit disk asked (Passes asked before between) → SomeAudit disk asked (IsPrinted asked)
-  unflushed_audit before between passed = weaker (Passes asked before between) (IsPrinted asked) (λ heap dump h. inl h.judged) passed
+  pub unflushed_audit : (before between after : Option (List ℕ)) → Keeps between after → SomeAudit disk asked (Passes asked before between) → SomeAudit disk asked (IsBegun asked before after)
+  unflushed_audit before between after kept passed = weaker (Passes asked before between) (IsBegun asked before after)
+      (λ heap dump h. inl (record { judged = h.judged; begun = unflushed before between after _ h.printed kept })) passed
 
   -- its line was printed, or a call of the output failed
   pub printed_audit : asked.explain ≡ false → (words : ℕ) (before after : Option (List ℕ)) (result : Result (Unit {0}) CommandRefusal) → SomeAudit disk asked (HasPassed asked.whole words)
@@ -53,12 +57,18 @@ module _ {F W : Type 0} (disk : Disk F W) (asked : runs.Audit) where
       }) passed
   printed_audit plain words before after (Err refusal) passed printed = tt
 
-  pub unprinted_audit : (words : ℕ) (result : Result (Unit {0}) CommandRefusal) → SomeAudit disk asked (HasPassed asked.whole words) → OnErr result (result ≡ Err CannotPrint)
-      → IfErr result (RefusesAudit disk asked)
-  unprinted_audit words (Ok _) passed cause = tt
-  unprinted_audit words (Err refusal) passed cause =
-      let is : refusal ≡ CannotPrint = cc in
-      subst (RefusesAudit disk asked) (sym is) (weaker (HasPassed asked.whole words) (IsPrinted asked) (λ heap dump h. inl h.judged) passed)
+  begun_audit : asked.explain ≡ false → (words : ℕ) (before after : Option (List ℕ)) → SomeAudit disk asked (HasPassed asked.whole words) → AppendsSome before after (named (codes "ok ") words)
+      → SomeAudit disk asked (IsBegun asked before after)
+  begun_audit plain words before after passed some = weaker (HasPassed asked.whole words) (IsBegun asked before after)
+      (λ heap dump h. inl (record {
+        judged = h.judged;
+        begun = subst (λ (b : Bool). AppendsSome before after (passed_lines b dump)) (sym plain) (subst (λ (n : ℕ). AppendsSome before after (named (codes "ok ") n)) h.total some);
+      })) passed
+
+  pub unprinted_audit : asked.explain ≡ false → (words : ℕ) (before after : Option (List ℕ)) (result : Result (Unit {0}) CommandRefusal) → SomeAudit disk asked (HasPassed asked.whole words)
+      → OnErr result (result ≡ Err CannotPrint) → OnErr result (AppendsSome before after (named (codes "ok ") words)) → IfErr result (RefusesAudit disk asked before after)
+  unprinted_audit plain words before after result passed cause begun =
+      failed_by (RefusesAudit disk asked before after) (AppendsSome before after (named (codes "ok ") words)) (begun_audit plain words before after passed) result cause begun
 
 -- a line that was not printed
 pub unprinted_line : (before after : Option (List ℕ)) (result : Result (Unit {0}) CommandRefusal) → OnErr result (result ≡ Err CannotPrint) → RefusedUnprinted before after result

@@ -2,6 +2,7 @@
 use Rattle.std.proofs.Common.{◌≡◌, ℕ, Bool, List, Option, Result, Ok, Err, IfErr, OnErr, map, codes, refl, sym, subst, ◌∙◌}
 use Rattle.std.specs.Io.KnownBytes.{Appends}
 use Rattle.heap_layout.specs.Heap.{Heap, live}
+use Rattle.heap_layout.specs.Writing.{AppendsSome}
 use Rattle.page_plan.specs.Sliding.{forwarded_value, live_words}
 use Rattle.comp_mutator.specs.Finishes.{edition_in, builds_in, live_of, pages_of, roots_of}
 use Rattle.comp_mutator.specs.Finished.{Finished}
@@ -10,7 +11,7 @@ use Rattle.comp_dump.specs.DumpEncoding.{dump_bytes}
 use Rattle.comp_dump.specs.Lent.{record_of}
 use Rattle.comp_dump.specs.declared.fault.DumpFault.TheVariants.{Truncated, TrailingBytes, BadMagic, BadField, Device}
 use Rattle.comp_dump.specs.declared.fault.DumpFault.TheVariants as faults
-use Rattle.commands.specs.Compact.{slid_records, swept_dump, BeginsDump, Compacts, DumpsHeap, IsSweptHeap, RefusesCompact, RefusesSweep, WasSwept}
+use Rattle.commands.specs.Compact.{slid_records, swept_dump, BeginsDump, Compacts, DumpsHeap, DumpsUnprinted, IsSweptHeap, RefusesCompact, RefusesSweep, WasSwept}
 use Rattle.command_io.specs.Disk.{Disk, WritesBeginning, WritesWhole}
 use Rattle.command_io.specs.Dumps.{IsOfDumping}
 use Rattle.command_io.specs.Images.{RefusesAt, SomeHeapAt}
@@ -20,6 +21,7 @@ use Rattle.command_io.specs.declared.refusal.Input.TheVariants as inputs
 use Rattle.command_io.specs.declared.refusal.Output.TheVariants as outputs
 use Rattle.command_io.specs.declared.refusal.CommandRefusal.{CommandRefusal}
 use Rattle.command_io.specs.declared.refusal.CommandRefusal.TheVariants.{Layout, Mutator, Sweep, Trace, Dump, Audit, Moved, CannotWrite, CannotOpen, CannotCreate, ReadFailed, CannotPrint, NoSuchWord, BadMarks, OutOfMemory, BadRoots}
+use Rattle.command_io.proofs.Begun.{failed_by}
 use Rattle.command_io.proofs.Imaged.{of_image}
 use Rattle.command_io.proofs.Outcomes.{same_parts, uncounted_by}
 
@@ -43,16 +45,16 @@ module _ (workers : ℕ) (f : Finished) (dump : Dumped) (parts : IsDumpOf worker
     pub dumps : (to : F) → WritesWhole disk outputs.Dump path (dump_bytes dump) to → DumpsHeap disk path workers to heap
     dumps to w = (builds_in f, h.builds, subst (λ (d : Dumped). WritesWhole disk outputs.Dump path (dump_bytes d) to) same_dump w)
 
-    pub begins : WritesBeginning disk outputs.Dump path (dump_bytes dump) → BeginsDump disk path workers heap
-    begins w = (builds_in f, h.builds, subst (λ (d : Dumped). WritesBeginning disk outputs.Dump path (dump_bytes d)) same_dump w)
+    pub begins : (to : F) → WritesBeginning disk outputs.Dump path (dump_bytes dump) to → BeginsDump disk path workers to heap
+    begins to w = (builds_in f, h.builds, subst (λ (d : Dumped). WritesBeginning disk outputs.Dump path (dump_bytes d) to) same_dump w)
 
   pub same_total : dump.total ≡ live_words (live heap)
   same_total = parts.total ∙ h.total
 
 -- The refusals of a compaction, from those of its parts.
-module _ {F W : Type 0} (disk : Disk F W) (large : Bool) (image path : List ℕ) (workers : ℕ) (to : F) where
+module _ {F W : Type 0} (disk : Disk F W) (large : Bool) (image path : List ℕ) (workers : ℕ) (to : F) (before after : Option (List ℕ)) where
   abbrev pub Refuses : CommandRefusal → Type 0
-  Refuses refusal = RefusesAt disk large image (RefusesCompact disk path workers to) refusal
+  Refuses refusal = RefusesAt disk large image (RefusesCompact disk path workers to before after) refusal
 
   -- the heap was not swept
   pub of_sweep : (refusal : CommandRefusal) → RefusesAt disk large image RefusesSweep refusal → Refuses refusal
@@ -80,7 +82,7 @@ module _ {F W : Type 0} (disk : Disk F W) (large : Bool) (image path : List ℕ)
 
   module _ (f : Finished) (dump : Dumped) (parts : IsDumpOf workers f dump) (swept : SomeHeapAt disk large image (IsSweptHeap workers f)) where
     -- its dump was not written
-    pub of_dumping : (refusal : CommandRefusal) → IsOfDumping disk path (dump_bytes dump) refusal → Refuses refusal
+    pub of_dumping : (refusal : CommandRefusal) → IsOfDumping disk path (dump_bytes dump) to refusal → Refuses refusal
     of_dumping (Layout fault) h = absurd h
     of_dumping (Mutator refused) h = absurd h
     of_dumping (Sweep fault) h = absurd h
@@ -90,12 +92,12 @@ module _ {F W : Type 0} (disk : Disk F W) (large : Bool) (image path : List ℕ)
     of_dumping (Dump BadMagic) h = absurd h
     of_dumping (Dump BadField) h = absurd h
     of_dumping (Dump faults.OutOfMemory) h = absurd h
-    of_dumping (Dump Device) h = (swept.0, swept.1, of_image large (IsSweptHeap workers f) (BeginsDump disk path workers) swept.0 (λ heap s. begins workers f dump parts heap s disk path h) swept.2)
+    of_dumping (Dump Device) h = (swept.0, swept.1, of_image large (IsSweptHeap workers f) (BeginsDump disk path workers to) swept.0 (λ heap s. begins workers f dump parts heap s disk path to h) swept.2)
     of_dumping (Audit fault) h = absurd h
     of_dumping (Moved fault) h = absurd h
     of_dumping (CannotWrite output) h = absurd h
     of_dumping (CannotOpen input) h = absurd h
-    of_dumping (CannotCreate output) h = (swept.0, swept.1, (h.0, h.1, of_image large (IsSweptHeap workers f) (WasSwept workers) swept.0 (λ heap s. (f, s)) swept.2))
+    of_dumping (CannotCreate output) h = (swept.0, swept.1, (h.0, h.1, h.2, of_image large (IsSweptHeap workers f) (WasSwept workers) swept.0 (λ heap s. (f, s)) swept.2))
     of_dumping (ReadFailed input) h = absurd h
     of_dumping CannotPrint h = absurd h
     of_dumping (NoSuchWord index) h = absurd h
@@ -104,18 +106,23 @@ module _ {F W : Type 0} (disk : Disk F W) (large : Bool) (image path : List ℕ)
     of_dumping OutOfMemory h = tt
 
     module _ (whole : WritesWhole disk outputs.Dump path (dump_bytes dump) to) where
-      -- its line was not printed
-      of_printing : Refuses CannotPrint
-      of_printing = (swept.0, swept.1, of_image large (IsSweptHeap workers f) (DumpsHeap disk path workers to) swept.0 (λ heap s. dumps workers f dump parts heap s disk path to whole) swept.2)
+      -- a beginning of its line was printed
+      of_printing : AppendsSome before after (named (codes "live ") dump.total) → Refuses CannotPrint
+      of_printing begun = (
+        swept.0,
+        swept.1,
+        of_image large (IsSweptHeap workers f) (DumpsUnprinted disk path workers to before after) swept.0
+            (λ heap s. (dumps workers f dump parts heap s disk path to whole, subst (λ (m : ℕ). AppendsSome before after (named (codes "live ") m)) (same_total workers f dump parts heap s) begun)) swept.2,
+      )
 
-      pub of_line : (result : Result (Unit {0}) CommandRefusal) → OnErr result (result ≡ Err CannotPrint) → IfErr result Refuses
-      of_line (Ok _) h = tt
-      of_line (Err refusal) h = let is : refusal ≡ CannotPrint = cc in subst Refuses (sym is) of_printing
+      pub of_line : (n : ℕ) → n ≡ dump.total → (result : Result (Unit {0}) CommandRefusal) → OnErr result (result ≡ Err CannotPrint) → OnErr result (AppendsSome before after (named (codes "live ") n)) → IfErr result Refuses
+      of_line n is result cause begun =
+          failed_by Refuses (AppendsSome before after (named (codes "live ") n)) (λ some. of_printing (subst (λ (m : ℕ). AppendsSome before after (named (codes "live ") m)) is some)) result cause begun
 
       -- its line was printed
-      pub of_all : (before after : Option (List ℕ)) (n : ℕ) → n ≡ dump.total → Appends before after (named (codes "live ") n)
+      pub of_all : (n : ℕ) → n ≡ dump.total → Appends before after (named (codes "live ") n)
           → SomeHeapAt disk large image (Compacts disk path workers to before after)
-      of_all before after n is line = (
+      of_all n is line = (
         swept.0,
         swept.1,
         of_image large (IsSweptHeap workers f) (Compacts disk path workers to before after) swept.0 (λ heap s. record {

@@ -1,7 +1,8 @@
 -- What was compared, and what was printed of it.
-use Rattle.std.proofs.Common.{◌≡◌, ℕ, Bool, true, false, List, ◌++◌, length, Option, Result, Ok, Err, IfOk, IfErr, OnOk, codes, inl, inr, sym, ap, ◌∙◌, subst, append_assoc}
+use Rattle.std.proofs.Common.{◌≡◌, ℕ, Bool, true, false, List, ◌++◌, length, Option, Result, Ok, Err, IfOk, IfErr, OnOk, codes, inl, inr, refl, sym, ap, ◌∙◌, subst, append_assoc}
 use Rattle.std.specs.Io.KnownBytes.{Appends}
 use Rattle.heap_layout.specs.Heap.{Heap}
+use Rattle.heap_layout.specs.Writing.{AppendsSome}
 use Rattle.comp_audit.specs.Checks.{all_entries}
 use Rattle.comp_dump.specs.Dumped.{Dumped}
 use Rattle.comp_dump.specs.Lists.{total}
@@ -19,7 +20,7 @@ use Rattle.command_io.specs.Images.{IsHeapAt}
 use Rattle.command_io.specs.Printing.{named, RefusedUnprinted}
 use Rattle.command_io.specs.declared.refusal.CommandRefusal.{CommandRefusal}
 use Rattle.command_io.specs.declared.refusal.CommandRefusal.TheVariants.{Audit, BadMarks, BadRoots, CannotCreate, CannotOpen, CannotPrint, Dump, Layout, CannotWrite, Moved, Mutator, NoSuchWord, OutOfMemory, ReadFailed, Sweep, Trace}
-use Rattle.commands.specs.Audits.{compared_lines, counts_lines, faults_by, found_lines, passed_lines, IsCompared, IsDumpAt, IsExplained, IsFound, IsPrinted, Passes, PrintsCompared, RefusedUnexplained, RefusesAudit, RefusesCompared, SomeAudit}
+use Rattle.commands.specs.Audits.{compared_lines, counts_lines, explained_lines, faults_by, found_lines, passed_lines, IsBegun, IsCompared, IsDumpAt, IsExplained, IsFound, Passes, PrintsCompared, RefusedUnexplained, RefusesAudit, RefusesCompared, SomeAudit}
 use Rattle.commands.specs.Replays.{StopsUnprinted}
 use Rattle.commands.specs.declared.explained.Compared.{Compared}
 use Rattle.commands.specs.declared.explained.Found.{Found}
@@ -36,32 +37,42 @@ lines_of compared dump counts =
     let same = one ∙ two ∙ three in
     ap (λ (l : List ℕ). l ++ (codes "\n" ++ found)) same ∙ sym (append_assoc (counts_text (total built_count dump.pages) (length dump.pages) (length (all_entries dump.pages))) (codes "\n") found)
 
--- these lines were printed, for what was found
-printed_of : (compared : Compared) (dump : Dumped) → AreCountsOf dump compared.counts → (before after : Option (List ℕ)) (found : Found) → compared.found ≡ found → Appends before after (compared_lines compared)
-    → Appends before after (counts_lines dump ++ found_lines found)
-printed_of compared dump counts before after found is printed =
-    subst (λ (f : Found). Appends before after (counts_lines dump ++ found_lines f)) is (subst (Appends before after) (lines_of compared dump counts) printed)
+-- and so of what was found
+lines_for : (compared : Compared) (dump : Dumped) → AreCountsOf dump compared.counts → (found : Found) → compared.found ≡ found → compared_lines compared ≡ counts_lines dump ++ found_lines found
+lines_for compared dump counts found is = lines_of compared dump counts ∙ ap (λ (f : Found). counts_lines dump ++ found_lines f) is
 
 module _ {F W : Type 0} (disk : Disk F W) (asked : runs.Audit) (explained : asked.explain ≡ true) (compared : Compared) (before after : Option (List ℕ)) where
+  -- the lines of a dump that passed
+  passed_by : (P : List ℕ → Type 0) (words : ℕ) → compared.found ≡ Passed words → P (compared_lines compared) → (heap : Heap) (dump : Dumped) → IsCompared asked.whole compared heap dump → P (passed_lines asked.explain dump)
+  passed_by P words is h heap dump same =
+      let found = subst (IsFound asked.whole heap dump) is same.found in
+      let lines = subst P (lines_for compared dump same.counts (Passed words) is) h in
+      let of_total = subst (λ (n : ℕ). P (counts_lines dump ++ named (codes "ok ") n)) found.1 lines in
+      subst (λ (b : Bool). P (passed_lines b dump)) (sym explained) of_total
+
+  -- the lines of a fault that is explained
+  told_by : (P : List ℕ → Type 0) (fault : AuditFault) (explanation : Explanation) → compared.found ≡ Failed fault explanation → P (compared_lines compared)
+      → (heap : Heap) (dump : Dumped) → IsCompared asked.whole compared heap dump → P (explained_lines dump explanation)
+  told_by P fault explanation is h heap dump same =
+      subst P (sym (append_assoc (counts_lines dump) (explanation_text explanation) (codes "\n"))) (subst P (lines_for compared dump same.counts (Failed fault explanation) is) h)
+
   -- a dump that passed
   passed : (words : ℕ) → compared.found ≡ Passed words → Appends before after (compared_lines compared) → (heap : Heap) (dump : Dumped) → IsCompared asked.whole compared heap dump → Passes asked before after heap dump
-  passed words is printed heap dump h =
-      let found = subst (IsFound asked.whole heap dump) is h.found in
-      let lines = printed_of compared dump h.counts before after (Passed words) is printed in
-      let of_total = subst (λ (n : ℕ). Appends before after (counts_lines dump ++ named (codes "ok ") n)) found.1 lines in
-      record { judged = found.0; printed = subst (λ (b : Bool). Appends before after (passed_lines b dump)) (sym explained) of_total }
+  passed words is printed heap dump h = record {
+    judged = (subst (IsFound asked.whole heap dump) is h.found).0;
+    printed = passed_by (Appends before after) words is printed heap dump h;
+  }
 
   -- a dump with a fault that is explained
   told : (fault : AuditFault) (explanation : Explanation) → compared.found ≡ Failed fault explanation → Appends before after (compared_lines compared)
       → (heap : Heap) (dump : Dumped) → IsCompared asked.whole compared heap dump → IsExplained asked before after fault heap dump
   told fault explanation is printed heap dump h =
       let found = subst (IsFound asked.whole heap dump) is h.found in
-      let lines = printed_of compared dump h.counts before after (Failed fault explanation) is printed in
       record {
         judged = found.0;
         explanation = explanation;
         explains = found.1;
-        printed = subst (Appends before after) (sym (append_assoc (counts_lines dump) (explanation_text explanation) (codes "\n"))) lines;
+        printed = told_by (Appends before after) fault explanation is printed heap dump h;
       }
 
   pub compared_passed : (result : Result (Unit {0}) CommandRefusal) → SomeAudit disk asked (IsCompared asked.whole compared) → OnOk result (PrintsCompared before after compared)
@@ -69,16 +80,28 @@ module _ {F W : Type 0} (disk : Disk F W) (asked : runs.Audit) (explained : aske
   compared_passed (Ok _) found (words, is, printed) = weaker disk asked (IsCompared asked.whole compared) (Passes asked before after) (passed words is printed) found
   compared_passed (Err refusal) found printed = tt
 
-  -- lines are printed of whatever was found
-  has_lines : (heap : Heap) (dump : Dumped) (found : Found) → IsFound asked.whole heap dump found → IsPrinted asked heap dump
-  has_lines heap dump (Passed words) is = inl is.0
-  has_lines heap dump (Failed fault explanation) is = inr (explained, (fault, is.0))
+  -- a beginning of the lines of whatever was found
+  begun : AppendsSome before after (compared_lines compared) → (heap : Heap) (dump : Dumped) → IsCompared asked.whole compared heap dump → (found : Found) → compared.found ≡ found → IsBegun asked before after heap dump
+  begun some heap dump h (Passed words) is = inl (record {
+    judged = (subst (IsFound asked.whole heap dump) is h.found).0;
+    begun = passed_by (AppendsSome before after) words is some heap dump h;
+  })
+  begun some heap dump h (Failed fault explanation) is =
+      let found = subst (IsFound asked.whole heap dump) is h.found in
+      inr (record {
+        explained = explained;
+        fault = fault;
+        judged = found.0;
+        explanation = explanation;
+        explains = found.1;
+        begun = told_by (AppendsSome before after) fault explanation is some heap dump h;
+      })
 
   -- why what was compared was not printed, or has a fault
-  compared_refused : (refusal : CommandRefusal) → SomeAudit disk asked (IsCompared asked.whole compared) → RefusesCompared before after compared refusal → RefusesAudit disk asked refusal
+  compared_refused : (refusal : CommandRefusal) → SomeAudit disk asked (IsCompared asked.whole compared) → RefusesCompared before after compared refusal → RefusesAudit disk asked before after refusal
   compared_refused (Audit fault) found (explanation, is, printed) = weaker disk asked (IsCompared asked.whole compared) (λ heap dump. Judges (faults_by asked.whole heap dump) (No fault))
       (λ heap dump h. (subst (IsFound asked.whole heap dump) is h.found).0) found
-  compared_refused CannotPrint found cause = weaker disk asked (IsCompared asked.whole compared) (IsPrinted asked) (λ heap dump h. has_lines heap dump compared.found h.found) found
+  compared_refused CannotPrint found cause = weaker disk asked (IsCompared asked.whole compared) (IsBegun asked before after) (λ heap dump h. begun cause heap dump h compared.found refl) found
   compared_refused OutOfMemory found cause = tt
   compared_refused (Layout fault) found cause = absurd cause
   compared_refused (Mutator refusal) found cause = absurd cause
@@ -95,7 +118,7 @@ module _ {F W : Type 0} (disk : Disk F W) (asked : runs.Audit) (explained : aske
   compared_refused (BadRoots line) found cause = absurd cause
 
   pub compared_cause : (result : Result (Unit {0}) CommandRefusal) → SomeAudit disk asked (IsCompared asked.whole compared) → IfErr result (RefusesCompared before after compared)
-      → IfErr result (RefusesAudit disk asked)
+      → IfErr result (RefusesAudit disk asked before after)
   compared_cause (Ok _) found cause = tt
   compared_cause (Err refusal) found cause = compared_refused refusal found cause
 

@@ -1,6 +1,6 @@
 -- What the command `map` does and refuses, from what its parts do and refuse.
 use Rattle.std.proofs.Common.{◌≡◌, ℕ, List, Option, Some, None, Result, Ok, Err, IfErr, OnErr, OnOk, inr, refl, sym, subst}
-use Rattle.std.specs.Prelude.{MatchOption, ⊤}
+use Rattle.std.specs.Prelude.{MatchOption}
 use Rattle.std.proofs.KnownBytes.{Appends-kept}
 use Rattle.std.specs.Io.KnownBytes.{Keeps}
 use Rattle.heap_layout.specs.Heap.{Heap}
@@ -11,39 +11,40 @@ use Rattle.command_io.specs.Pictures.{DrawsWhole, IsOfDrawing}
 use Rattle.command_io.specs.Printing.{CountsPrint}
 use Rattle.command_io.specs.declared.refusal.CommandRefusal.{CommandRefusal}
 use Rattle.command_io.specs.declared.refusal.CommandRefusal.TheVariants.{Layout, Mutator, Sweep, Trace, Dump, Audit, Moved, CannotWrite, CannotOpen, CannotCreate, ReadFailed, CannotPrint, NoSuchWord, BadMarks, OutOfMemory, BadRoots}
+use Rattle.command_io.proofs.Begun.{failed_by}
 use Rattle.command_io.proofs.Imaged.{of_image}
 use Rattle.command_io.proofs.Outcomes.{uncounted_by}
+use Rattle.command_io.proofs.Written.{unflushed}
 use Rattle.commands.specs.Audits.{FailsCompared, SomeAudit}
-use Rattle.commands.specs.Compact.{PrintsLive}
+use Rattle.commands.specs.Compact.{BeginsLive, PrintsLive}
 use Rattle.commands.specs.Mapping.{audit_for, FailsMap, IsOfWritingMap, Maps, RefusesMap, SomeMap}
 use Rattle.commands.proofs.Audited.{weaker}
 
 -- a refusal of the picture is one of the writing
-pub writing_map : {F W : Type 0} (disk : Disk F W) (path : List ℕ) (to : F) (refusal : CommandRefusal) → IsOfDrawing disk path refusal → IsOfWritingMap disk path to refusal
-writing_map disk path to (Layout fault) h = h
-writing_map disk path to (Mutator refused) h = h
-writing_map disk path to (Sweep fault) h = h
-writing_map disk path to (Trace fault) h = h
-writing_map disk path to (Dump fault) h = h
-writing_map disk path to (Audit fault) h = h
-writing_map disk path to (Moved fault) h = h
-writing_map disk path to (CannotWrite output) h = h
-writing_map disk path to (CannotOpen input) h = h
-writing_map disk path to (CannotCreate output) h = h
-writing_map disk path to (ReadFailed input) h = h
-writing_map disk path to CannotPrint h = absurd h
-writing_map disk path to (NoSuchWord index) h = h
-writing_map disk path to (BadMarks line) h = h
-writing_map disk path to (BadRoots line) h = h
-writing_map disk path to OutOfMemory h = h
+pub writing_map : {F W : Type 0} (disk : Disk F W) (path : List ℕ) (to : F) (before after : Option (List ℕ)) (heap : Heap) (refusal : CommandRefusal) → IsOfDrawing disk path to refusal
+    → IsOfWritingMap disk path to before after heap refusal
+writing_map disk path to before after heap (Layout fault) h = h
+writing_map disk path to before after heap (Mutator refused) h = h
+writing_map disk path to before after heap (Sweep fault) h = h
+writing_map disk path to before after heap (Trace fault) h = h
+writing_map disk path to before after heap (Dump fault) h = h
+writing_map disk path to before after heap (Audit fault) h = h
+writing_map disk path to before after heap (Moved fault) h = h
+writing_map disk path to before after heap (CannotWrite output) h = h
+writing_map disk path to before after heap (CannotOpen input) h = h
+writing_map disk path to before after heap (CannotCreate output) h = h
+writing_map disk path to before after heap (ReadFailed input) h = h
+writing_map disk path to before after heap CannotPrint h = absurd h
+writing_map disk path to before after heap (NoSuchWord index) h = h
+writing_map disk path to before after heap (BadMarks line) h = h
+writing_map disk path to before after heap (BadRoots line) h = h
+writing_map disk path to before after heap OutOfMemory h = h
 
--- the picture was written, and a call of the output failed
-pub unprinted_map : {F W : Type 0} (disk : Disk F W) (path : List ℕ) (to : F) (result : Result (Unit {0}) CommandRefusal) → OnErr result (result ≡ Err CannotPrint) → DrawsWhole disk path to
-    → IfErr result (IsOfWritingMap disk path to)
-unprinted_map disk path to (Ok _) cause written = tt
-unprinted_map disk path to (Err refusal) cause written =
-    let is : refusal ≡ CannotPrint = cc in
-    subst (IsOfWritingMap disk path to) (sym is) written
+-- the picture was written, a call of the output failed, and a beginning of its line was printed
+pub unprinted_map : {F W : Type 0} (disk : Disk F W) (path : List ℕ) (to : F) (before after : Option (List ℕ)) (heap : Heap) (result : Result (Unit {0}) CommandRefusal) → OnErr result (result ≡ Err CannotPrint)
+    → OnErr result (BeginsLive before after heap) → DrawsWhole disk path to → IfErr result (IsOfWritingMap disk path to before after heap)
+unprinted_map disk path to before after heap result cause begun written =
+    failed_by (IsOfWritingMap disk path to before after heap) (BeginsLive before after heap) (λ some. (written, some)) result cause begun
 
 -- the picture was written, and its line printed
 pub mapped_ok : {F W : Type 0} (disk : Disk F W) (path : List ℕ) (to : F) (before after : Option (List ℕ)) (heap : Heap) (result : Result (Unit {0}) CommandRefusal) → DrawsWhole disk path to
@@ -63,14 +64,6 @@ module _ {F W : Type 0} (disk : Disk F W) (asked : Mapping) where
       go : (dump : Option (List ℕ)) → Found dump P → Found dump Q
       go None (bytes, is_there, image) = (bytes, is_there, of_image asked.large P Q bytes f image)
       go (Some path) h = weaker disk (audit_for asked path) (λ heap other. P heap) (λ heap other. Q heap) (λ heap other. f heap) h
-
-  -- and what does not depend on it
-  map_holds : (P : Heap → Type 0) (Q : Type 0) → ((heap : Heap) → P heap → Q) → SomeMap disk asked P → Q
-  map_holds P Q f found = go asked.dump found
-    where
-      go : (dump : Option (List ℕ)) → Found dump P → Q
-      go None (bytes, is_there, (heap, stored, accepted, (known, h))) = f heap h
-      go (Some path) (bytes, is_there, (heap, stored, accepted, (known, (more, is_near, (dump, in_range, is_read, h))))) = f heap h
 
   -- with a dump
   pub some_dumped : (heap : Heap) (path : List ℕ) → asked.dump ≡ Some path → SomeAudit disk (audit_for asked path) (λ other dump. other ≡ heap) → SomeMap disk asked (λ other. other ≡ heap)
@@ -109,11 +102,9 @@ module _ {F W : Type 0} (disk : Disk F W) (asked : Mapping) where
       (λ heap h. record { written = h.written; printed = Appends-kept before between after _ h.printed kept }) found
 
   -- and if it is not
-  pub unflushed_map : (from to : F) (before between : Option (List ℕ)) → SomeMap disk asked (Maps disk asked.out to before between) → RefusesMap disk asked from to CannotPrint
-  unflushed_map from to before between found = inr (
-    map_weaker (Maps disk asked.out to before between) (λ heap. ⊤) (λ heap h. tt) found,
-    map_holds (Maps disk asked.out to before between) (DrawsWhole disk asked.out to) (λ heap h. h.written) found,
-  )
+  pub unflushed_map : (from to : F) (before between after : Option (List ℕ)) → Keeps between after → SomeMap disk asked (Maps disk asked.out to before between) → RefusesMap disk asked from to before after CannotPrint
+  unflushed_map from to before between after kept found =
+      inr (map_weaker (Maps disk asked.out to before between) (λ heap. IsOfWritingMap disk asked.out to before after heap CannotPrint) (λ heap h. (h.written, unflushed before between after _ h.printed kept)) found)
 
   module _ (to : F) (before after : Option (List ℕ)) (heap : Heap) (found : SomeMap disk asked (λ other. other ≡ heap)) (result : Result (Unit {0}) CommandRefusal) where
     -- what is to be drawn was drawn, and its line printed
@@ -125,9 +116,11 @@ module _ {F W : Type 0} (disk : Disk F W) (asked : Mapping) where
         go (Err refusal) h = tt
 
     -- or it was not
-    pub refused_map : (from : F) → IfErr result (IsOfWritingMap disk asked.out to) → IfErr result (RefusesMap disk asked from to)
+    pub refused_map : (from : F) → IfErr result (IsOfWritingMap disk asked.out to before after heap) → IfErr result (RefusesMap disk asked from to before after)
     refused_map from cause = go result cause
       where
-        go : (r : Result (Unit {0}) CommandRefusal) → IfErr r (IsOfWritingMap disk asked.out to) → IfErr r (RefusesMap disk asked from to)
+        go : (r : Result (Unit {0}) CommandRefusal) → IfErr r (IsOfWritingMap disk asked.out to before after heap) → IfErr r (RefusesMap disk asked from to before after)
         go (Ok _) h = tt
-        go (Err refusal) h = inr (map_weaker (λ other. other ≡ heap) (λ other. ⊤) (λ other same. tt) found, h)
+        go (Err refusal) h =
+            inr (map_weaker (λ other. other ≡ heap) (λ other. IsOfWritingMap disk asked.out to before after other refusal)
+            (λ other same. subst (λ (drawn : Heap). IsOfWritingMap disk asked.out to before after drawn refusal) (sym same) h) found)

@@ -13,7 +13,7 @@ use Rattle.command_io.specs.declared.refusal.Output.TheVariants as outputs
 use Rattle.command_io.specs.declared.refusal.CommandRefusal.{CommandRefusal}
 use Rattle.command_io.specs.declared.refusal.CommandRefusal.TheVariants.{CannotPrint}
 use Rattle.command_io.proofs.Outcomes.{uncounted_by}
-use Rattle.commands.specs.Compact.{PrintsLive}
+use Rattle.commands.specs.Compact.{live_line, PrintsLive}
 use Rattle.commands.specs.Marking.{remarked, IsMarkedByRoots, IsMarkedHeap, Marks, RefusesMark, RefusesMarking}
 use Rattle.commands.specs.Nexts.{IsOfWritingNext}
 
@@ -53,10 +53,10 @@ module _ {F W : Type 0} (disk : Disk F W) (large : Bool) (image : List ℕ) wher
           go (Err refusal) f w p = tt
 
       -- or it was not
-      pub refused_mark : (from : F) → IfErr result (IsOfWritingNext disk new (encoding heap) to) → IfErr result (RefusesMark disk large image new from to)
+      pub refused_mark : (from : F) → IfErr result (IsOfWritingNext disk new (encoding heap) to before after (live_line heap)) → IfErr result (RefusesMark disk large image new from to before after)
       refused_mark from cause = go result found cause
         where
           go : (r : Result (Unit {0}) CommandRefusal) → SomePartsAt disk large image (λ parts. IsMarkedHeap parts heap)
-              → IfErr r (IsOfWritingNext disk new (encoding heap) to) → IfErr r (RefusesMark disk large image new from to)
+              → IfErr r (IsOfWritingNext disk new (encoding heap) to before after (live_line heap)) → IfErr r (RefusesMark disk large image new from to before after)
           go (Ok _) f h = tt
           go (Err refusal) (bytes, is_there, (parts, stored, within, (known, is))) h = inr (bytes, is_there, (parts, stored, within, (known, (heap, is, h))))

@@ -3,18 +3,21 @@ use Rattle.std.proofs.Common.{◌≡◌, ℕ, Bool, List, Option, Result, Ok, Er
 use Rattle.std.proofs.KnownBytes.{Appends-kept}
 use Rattle.std.specs.Io.KnownBytes.{Appends, Keeps}
 use Rattle.heap_layout.specs.Heap.{Heap}
+use Rattle.heap_layout.specs.Writing.{AppendsSome}
 use Rattle.moved_heaps.specs.Moved.{Moved, IsLawful}
 use Rattle.moved_heaps.specs.MovedFaults.{IsFirstFault}
 use Rattle.moved_heaps.specs.declared.fault.MovedFault.{MovedFault}
 use Rattle.moved_heaps.specs.declared.fault.MovedFault.TheVariants.{WrongHead, PlaceOutside, Overlap, WrongRoot, WrongWord, OutOfMemory}
 use Rattle.moved_heaps.specs.declared.judging.Moves.{Moves}
-use Rattle.commands.specs.Moving.{moves_lines, refusal_of, FailsMoved, HasMoved, IsMovedAt, IsMovedIn, PrintsMoves, RefusesMoved, SomeMove}
+use Rattle.commands.specs.Moving.{moves_lines, refusal_of, FailsMoved, HasMoved, BeginsMoves, IsMovedAt, IsMovedIn, PrintsMoves, RefusesMoved, SomeMove}
 use Rattle.command_io.specs.Disk.{Disk, SomeFile}
 use Rattle.command_io.specs.Images.{IsHeapAt}
 use Rattle.command_io.specs.declared.refusal.Input.TheVariants as inputs
 use Rattle.command_io.specs.declared.refusal.CommandRefusal.{CommandRefusal}
 use Rattle.command_io.specs.declared.refusal.CommandRefusal.TheVariants.{CannotPrint}
+use Rattle.command_io.proofs.Begun.{failed_by}
 use Rattle.command_io.proofs.Imaged.{of_image}
+use Rattle.command_io.proofs.Written.{unflushed}
 
 module _ {F W : Type 0} (disk : Disk F W) (large : Bool) (image path : List ℕ) where
   -- what holds of the heap and of the moved heap that were read holds of those of the files
@@ -52,8 +55,9 @@ module _ {F W : Type 0} (disk : Disk F W) (large : Bool) (image path : List ℕ)
       (λ heap moved h. record { lawful = h.lawful; printed = Appends-kept before between after _ h.printed kept }) passed
 
   -- and if it is not
-  pub unflushed_moved : (before between : Option (List ℕ)) → SomeMove disk large image path (PrintsMoves before between) → SomeMove disk large image path IsLawful
-  unflushed_moved before between passed = weaker (PrintsMoves before between) IsLawful (λ heap moved h. h.lawful) passed
+  pub unflushed_moved : (before between after : Option (List ℕ)) → Keeps between after → SomeMove disk large image path (PrintsMoves before between) → SomeMove disk large image path (BeginsMoves before after)
+  unflushed_moved before between after kept passed = weaker (PrintsMoves before between) (BeginsMoves before after)
+      (λ heap moved h. record { lawful = h.lawful; begun = unflushed before between after _ h.printed kept }) passed
 
   -- its lines were printed, or a call of the output failed
   pub printed_moved : (moves : Moves) (before after : Option (List ℕ)) (result : Result (Unit {0}) CommandRefusal) → SomeMove disk large image path (HasMoved moves)
@@ -66,9 +70,17 @@ module _ {F W : Type 0} (disk : Disk F W) (large : Bool) (image path : List ℕ)
       }) passed
   printed_moved moves before after (Err refusal) passed printed = tt
 
-  pub unprinted_moved : (moves : Moves) (result : Result (Unit {0}) CommandRefusal) → SomeMove disk large image path (HasMoved moves) → OnErr result (result ≡ Err CannotPrint)
-      → IfErr result (RefusesMoved disk large image path)
-  unprinted_moved moves (Ok _) passed cause = tt
-  unprinted_moved moves (Err refusal) passed cause =
-      let is : refusal ≡ CannotPrint = cc in
-      subst (RefusesMoved disk large image path) (sym is) (weaker (HasMoved moves) IsLawful (λ heap moved h. h.0) passed)
+  -- or a beginning of them
+  begun_moves : (moves : Moves) (before after : Option (List ℕ)) → SomeMove disk large image path (HasMoved moves) → AppendsSome before after (moves_lines moves.words moves.objects)
+      → SomeMove disk large image path (BeginsMoves before after)
+  begun_moves moves before after passed some = weaker (HasMoved moves) (BeginsMoves before after)
+      (λ heap moved h. record {
+        lawful = h.0;
+        begun = subst (λ (n : ℕ). AppendsSome before after (moves_lines n (length heap.marks))) h.2
+            (subst (λ (n : ℕ). AppendsSome before after (moves_lines moves.words n)) h.1 some);
+      }) passed
+
+  pub unprinted_moved : (moves : Moves) (before after : Option (List ℕ)) (result : Result (Unit {0}) CommandRefusal) → SomeMove disk large image path (HasMoved moves) → OnErr result (result ≡ Err CannotPrint)
+      → OnErr result (AppendsSome before after (moves_lines moves.words moves.objects)) → IfErr result (RefusesMoved disk large image path before after)
+  unprinted_moved moves before after result passed cause begun =
+      failed_by (RefusesMoved disk large image path before after) (AppendsSome before after (moves_lines moves.words moves.objects)) (begun_moves moves before after passed) result cause begun

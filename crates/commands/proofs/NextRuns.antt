@@ -3,6 +3,7 @@ use Rattle.std.proofs.Common.{◌≡◌, ℕ, List, Option, Result, Ok, Err, IfE
 use Rattle.std.proofs.KnownBytes.{Appends-kept}
 use Rattle.std.specs.Io.KnownBytes.{Keeps}
 use Rattle.heap_layout.specs.Heap.{Heap}
+use Rattle.heap_layout.specs.Writing.{AppendsSome}
 use Rattle.comp_trace.specs.declared.text.line.Line.{Line}
 use Rattle.command_line.specs.declared.next.NextRun.{NextRun}
 use Rattle.command_io.specs.Disk.{Disk, WritesWhole}
@@ -16,7 +17,9 @@ use Rattle.command_io.specs.Printing.{CountsPrint}
 use Rattle.command_io.specs.declared.refusal.Output.TheVariants as outputs
 use Rattle.command_io.specs.declared.refusal.CommandRefusal.{CommandRefusal}
 use Rattle.command_io.specs.declared.refusal.CommandRefusal.TheVariants.{Layout, Mutator, Sweep, Trace, Dump, Audit, Moved, CannotWrite, CannotOpen, CannotCreate, ReadFailed, CannotPrint, NoSuchWord, BadMarks, OutOfMemory, BadRoots}
+use Rattle.command_io.proofs.Begun.{failed_by}
 use Rattle.command_io.proofs.Outcomes.{uncounted_by}
+use Rattle.command_io.proofs.Written.{unflushed}
 use Rattle.commands.specs.Cycled.{refusal_by, shown_by, Given, IsCycledHeap, IsUncycled}
 use Rattle.commands.specs.Nexts.{IsOfWritingNext, IsWrittenNext, MakesNext, Nexts, PrintsNext, RefusesCycle, RefusesGivenAt, RefusesNext, RefusesWriting}
 use Rattle.commands.specs.declared.cycling.Cycled.{Cycled}
@@ -37,32 +40,30 @@ given_uncounted disk mutators asking.Reachable n refusal h = absurd h
 given_uncounted disk mutators (asking.ReachableFrom path) n refusal h = roots_uncounted disk path.now mutators n refusal h
 
 -- a refusal of the image is one of the writing
-pub writing_image : {F W : Type 0} (disk : Disk F W) (path bytes : List ℕ) (to : F) (refusal : CommandRefusal) → IsOfWritingImage disk path bytes refusal
-    → IsOfWritingNext disk path bytes to refusal
-writing_image disk path bytes to (Layout fault) h = h
-writing_image disk path bytes to (Mutator refused) h = h
-writing_image disk path bytes to (Sweep fault) h = h
-writing_image disk path bytes to (Trace fault) h = h
-writing_image disk path bytes to (Dump fault) h = h
-writing_image disk path bytes to (Audit fault) h = h
-writing_image disk path bytes to (Moved fault) h = h
-writing_image disk path bytes to (CannotWrite output) h = h
-writing_image disk path bytes to (CannotOpen input) h = h
-writing_image disk path bytes to (CannotCreate output) h = h
-writing_image disk path bytes to (ReadFailed input) h = h
-writing_image disk path bytes to CannotPrint h = absurd h
-writing_image disk path bytes to (NoSuchWord index) h = h
-writing_image disk path bytes to (BadMarks line) h = h
-writing_image disk path bytes to (BadRoots line) h = h
-writing_image disk path bytes to OutOfMemory h = h
+pub writing_image : {F W : Type 0} (disk : Disk F W) (path bytes : List ℕ) (to : F) (before after : Option (List ℕ)) (lines : List ℕ) (refusal : CommandRefusal) → IsOfWritingImage disk path bytes to refusal
+    → IsOfWritingNext disk path bytes to before after lines refusal
+writing_image disk path bytes to before after lines (Layout fault) h = h
+writing_image disk path bytes to before after lines (Mutator refused) h = h
+writing_image disk path bytes to before after lines (Sweep fault) h = h
+writing_image disk path bytes to before after lines (Trace fault) h = h
+writing_image disk path bytes to before after lines (Dump fault) h = h
+writing_image disk path bytes to before after lines (Audit fault) h = h
+writing_image disk path bytes to before after lines (Moved fault) h = h
+writing_image disk path bytes to before after lines (CannotWrite output) h = h
+writing_image disk path bytes to before after lines (CannotOpen input) h = h
+writing_image disk path bytes to before after lines (CannotCreate output) h = h
+writing_image disk path bytes to before after lines (ReadFailed input) h = h
+writing_image disk path bytes to before after lines CannotPrint h = absurd h
+writing_image disk path bytes to before after lines (NoSuchWord index) h = h
+writing_image disk path bytes to before after lines (BadMarks line) h = h
+writing_image disk path bytes to before after lines (BadRoots line) h = h
+writing_image disk path bytes to before after lines OutOfMemory h = h
 
--- the image was written, and a call of the output failed
-pub unprinted_next : {F W : Type 0} (disk : Disk F W) (path bytes : List ℕ) (to : F) (result : Result (Unit {0}) CommandRefusal) → OnErr result (result ≡ Err CannotPrint)
-    → WritesWhole disk outputs.New path bytes to → IfErr result (IsOfWritingNext disk path bytes to)
-unprinted_next disk path bytes to (Ok _) cause written = tt
-unprinted_next disk path bytes to (Err refusal) cause written =
-    let is : refusal ≡ CannotPrint = cc in
-    subst (IsOfWritingNext disk path bytes to) (sym is) written
+-- the image was written, a call of the output failed, and a beginning of these lines was printed
+pub unprinted_next : {F W : Type 0} (disk : Disk F W) (path bytes : List ℕ) (to : F) (before after : Option (List ℕ)) (lines : List ℕ) (result : Result (Unit {0}) CommandRefusal) → OnErr result (result ≡ Err CannotPrint)
+    → OnErr result (AppendsSome before after lines) → WritesWhole disk outputs.New path bytes to → IfErr result (IsOfWritingNext disk path bytes to before after lines)
+unprinted_next disk path bytes to before after lines result cause begun written =
+    failed_by (IsOfWritingNext disk path bytes to before after lines) (AppendsSome before after lines) (λ some. (written, some)) result cause begun
 
 -- what follows from an Ok, and from an Err
 pub ok_then : (P Q : Type 0) → (P → Q) → (result : Result (Unit {0}) CommandRefusal) → OnOk result P → OnOk result Q
@@ -95,10 +96,10 @@ module _ {F W : Type 0} (disk : Disk F W) (asked : NextRun) (to : F) (before bet
       let printed = Appends-kept before between after _ h.printed kept in
       (heap, image, (lines, trace, (marks, own, record { shown = h.shown; next = h.next; cycled = h.cycled; written = h.written; printed = printed })))
 
-  pub unflushed_next : (from : F) → MakesNext disk asked to before between
+  pub unflushed_next : (from : F) → Keeps between after → MakesNext disk asked to before between
       → RefusesNext disk asked from to before after CannotPrint
-  unflushed_next from (heap, image, (lines, trace, (marks, own, h))) =
-      inr (inr (heap, image, (lines, trace, (marks, own, inr (h.shown, h.next, h.cycled, h.written)))))
+  unflushed_next from kept (heap, image, (lines, trace, (marks, own, h))) =
+      inr (inr (heap, image, (lines, trace, (marks, own, inr (h.shown, h.next, h.cycled, (h.written, unflushed before between after _ h.printed kept))))))
 
   -- what was printed of an accepted heap
   pub printed_next : MakesNext disk asked to before after → SomeHeapOf asked.large (PrintsNext asked.mutators asked.fresh before after)

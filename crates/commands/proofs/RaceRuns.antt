@@ -21,6 +21,7 @@ use Rattle.command_io.specs.Texts.{HasLinesAt}
 use Rattle.command_io.specs.declared.refusal.Output.TheVariants as outputs
 use Rattle.command_io.specs.declared.refusal.CommandRefusal.{CommandRefusal}
 use Rattle.command_io.specs.declared.refusal.CommandRefusal.TheVariants.{Trace, CannotPrint}
+use Rattle.command_io.proofs.Written.{unflushed}
 use Rattle.commands.specs.Outcomes.{printed_of, refusal_of, IsHaltedBy, IsWritten, RefusesOutcome}
 use Rattle.commands.specs.declared.replays.Replayed.{Replayed}
 use Rattle.commands.proofs.TraceRuns as runs
@@ -42,7 +43,7 @@ module _ {F W : Type 0} (disk : Disk F W) (asked : TraceRun) (from to : F) (befo
       → IfErr result (RefusesOutcome disk asked from to before after outcome) → IfErr result (RefusesRace disk asked from to before after)
   of_outcome_err halted h =
       runs.of_outcome_err (racing asked.mutators asked.fresh) disk asked from to before after heap image lines trace (λ shown f. IsRacedHeap asked.mutators asked.fresh lines shown f heap)
-      (λ shown f is. has_race asked.mutators asked.fresh lines shown f heap is) (λ shown f is. refl) outcome ran halted result h
+      (λ shown f is. has_race asked.mutators asked.fresh lines shown f heap is) (λ shown f is. refl) (λ shown f is. refl) outcome ran halted result h
 
   pub of_outcome_ok : OnOk result (IsWritten disk asked to before after outcome) → OnOk result (SomeRun disk asked (Races disk asked to before after))
   of_outcome_ok h =
@@ -96,7 +97,7 @@ module _ {F W : Type 0} (disk : Disk F W) (asked : TraceRun) (to : F) (before be
     ),
   )
 
-  pub unflushed_race : (from : F) → SomeRun disk asked (Races disk asked to before between)
+  pub unflushed_race : (from : F) → Keeps between after → SomeRun disk asked (Races disk asked to before between)
       → SomeRun disk asked (RefusesRun (racing asked.mutators asked.fresh) disk asked from to before after CannotPrint)
-  unflushed_race from (bytes, is_there, (heap, stored, accepted, (known, (more, is_near, (text, is_text, (lines, has_lines, h)))))) =
-      (bytes, is_there, (heap, stored, accepted, (known, (more, is_near, (text, is_text, (lines, has_lines, inl (h.race, h.written)))))))
+  unflushed_race from kept (bytes, is_there, (heap, stored, accepted, (known, (more, is_near, (text, is_text, (lines, has_lines, h)))))) =
+      (bytes, is_there, (heap, stored, accepted, (known, (more, is_near, (text, is_text, (lines, has_lines, inl (h.race, h.written, unflushed before between after _ h.printed kept)))))))

@@ -1,8 +1,9 @@
 -- What the command `replay` does and refuses, from what its parts do and refuse.
-use Rattle.std.proofs.Common.{◌≡◌, ℕ, Bool, ◌+◌, ◌++◌, List, [], Option, Some, None, Result, Ok, Err, IfErr, IfOk, OnErr, OnOk, length, map, inl, inr, refl, sym, subst, ◌∙◌, append-nil}
+use Rattle.std.proofs.Common.{◌≡◌, ℕ, Bool, ◌+◌, ◌++◌, List, [], Option, Some, None, Result, Ok, Err, IfErr, IfOk, OnErr, OnOk, length, map, inl, inr, refl, sym, ap, subst, ◌∙◌, append-nil}
 use Rattle.std.proofs.KnownBytes.{Appends-kept, Appends-trans, Keeps-refl}
 use Rattle.std.specs.Io.KnownBytes.{Appends, Keeps}
 use Rattle.heap_layout.specs.Heap.{live, Heap}
+use Rattle.heap_layout.specs.Writing.{AppendsSome}
 use Rattle.page_plan.specs.Sliding.{live_words}
 use Rattle.comp_mutator.specs.Setup.{Setup}
 use Rattle.comp_mutator.specs.Shares.{allocated}
@@ -22,16 +23,17 @@ use Rattle.comp_dump.specs.DumpEncoding.{dump_bytes}
 use Rattle.comp_dump.specs.Lent.{record_of}
 use Rattle.command_line.specs.declared.words.TraceRun.{TraceRun}
 use Rattle.command_io.specs.Disk.{Disk, WritesWhole}
-use Rattle.command_io.specs.Dumps.{IsOfDumping, RefusedUncreated}
-use Rattle.command_io.specs.NewImages.{RefusedUnmade}
+use Rattle.command_io.specs.Dumps.{IsOfDumping}
 use Rattle.command_io.specs.Images.{IsHeapAt, RefusesAt, RefusesImage}
 use Rattle.command_io.specs.Printing.{CountsPrint}
-use Rattle.commands.specs.Replays.{dumped_of, replaying, shown_lines, CutsReplay, IsOfWritingRun, IsPrintedHalt, IsReplayedHeap, PrintsRun, RanOver, RefusesReplay, RefusesRun, Replays, SomeRun, StopsUnprinted}
+use Rattle.commands.specs.Replays.{dumped_of, lines_of_run, replaying, run_lines, shown_lines, CutsReplay, IsOfWritingRun, IsPrintedHalt, IsReplayedHeap, PrintsRun, RanOver, RefusesReplay, RefusesRun, Replays, SomeRun, StopsUnprinted}
 use Rattle.command_io.specs.Texts.{HasLinesAt, RefusesTextAt}
 use Rattle.command_io.specs.declared.refusal.Output.TheVariants as outputs
 use Rattle.command_io.specs.declared.refusal.CommandRefusal.{CommandRefusal}
 use Rattle.command_io.specs.declared.refusal.CommandRefusal.TheVariants.{Layout, Mutator, Sweep, Trace, Dump, Audit, Moved, CannotWrite, CannotOpen, CannotCreate, ReadFailed, CannotPrint, NoSuchWord, BadMarks, OutOfMemory, BadRoots}
-use Rattle.command_io.proofs.Outcomes.{same_parts, uncounted_by, uncreated, unmade_too}
+use Rattle.command_io.proofs.Begun.{failed_by}
+use Rattle.command_io.proofs.Written.{unflushed}
+use Rattle.command_io.proofs.Outcomes.{same_parts, uncounted_by}
 use Rattle.commands.specs.Outcomes.{printed_of, refusal_of, IsHaltedBy, IsOfHalt, IsWritten, RefusesInputs, RefusesOutcome}
 use Rattle.commands.specs.declared.replays.Replayed.{Replayed}
 use Rattle.commands.proofs.TraceRuns as runs
@@ -39,6 +41,12 @@ use Rattle.commands.proofs.TraceRuns as runs
 -- a run, and its dump
 abbrev pub has_run : (mutators fresh : ℕ) (lines : List Line) (shown : List Shown) (f : Finished) (heap : Heap) → IsReplayedHeap mutators fresh lines shown f heap → RanOver mutators fresh lines heap
 has_run mutators fresh lines shown f heap h = record { end = h.end; runs = h.runs; dump = dumped_of mutators fresh f; left = h.left }
+
+-- and what is printed of it
+run_text : (mutators fresh : ℕ) (lines : List Line) (shown : List Shown) (f : Finished) (heap : Heap) (h : IsReplayedHeap mutators fresh lines shown f heap)
+    → lines_of_run (has_run mutators fresh lines shown f heap h) ≡ run_lines shown (live_of f)
+run_text mutators fresh lines shown f heap h =
+    ap (λ (values : List Shown). run_lines values (live_words (live heap) + allocated heap.edition h.end.added)) (sym h.shown_is) ∙ ap (run_lines shown) (sym h.left.after.total)
 
 replays : {F W : Type 0} (disk : Disk F W) (asked : TraceRun) (to : F) (before after : Option (List ℕ)) (lines : List Line) (shown : List Shown) (f : Finished) (heap : Heap)
     → IsReplayedHeap asked.mutators asked.fresh lines shown f heap → WritesWhole disk outputs.Dump asked.dump.now (dump_bytes (dumped_of asked.mutators asked.fresh f)) to → PrintsRun before after shown (live_of f)
@@ -58,7 +66,7 @@ module _ {F W : Type 0} (disk : Disk F W) (asked : TraceRun) (from to : F) (befo
       → IfErr result (RefusesOutcome disk asked from to before after outcome) → IfErr result (RefusesReplay disk asked from to before after)
   of_outcome_err halted h =
       runs.of_outcome_err (replaying asked.mutators asked.fresh) disk asked from to before after heap image lines trace (λ shown f. IsReplayedHeap asked.mutators asked.fresh lines shown f heap)
-      (λ shown f is. has_run asked.mutators asked.fresh lines shown f heap is) (λ shown f is. refl) outcome ran halted result h
+      (λ shown f is. has_run asked.mutators asked.fresh lines shown f heap is) (λ shown f is. refl) (λ shown f is. run_text asked.mutators asked.fresh lines shown f heap is) outcome ran halted result h
 
   pub of_outcome_ok : OnOk result (IsWritten disk asked to before after outcome) → OnOk result (SomeRun disk asked (Replays disk asked to before after))
   of_outcome_ok h =
@@ -163,14 +171,6 @@ halt_unprinted before after shown printed (BadMarks line) h = none_printed befor
 halt_unprinted before after shown printed (BadRoots line) h = none_printed before after shown h printed
 halt_unprinted before after shown printed OutOfMemory h = none_printed before after shown h printed
 
--- and none of the dump
-pub uncreated_anyway : {F W : Type 0} (disk : Disk F W) (files : F) (result : Result (Unit {0}) CommandRefusal) → RefusedUncreated disk files files result
-uncreated_anyway disk files (Ok _) = tt
-uncreated_anyway disk files (Err refusal) = uncreated disk files refusal
-
-pub unmade_anyway : {F W : Type 0} (disk : Disk F W) (files : F) (result : Result (Unit {0}) CommandRefusal) → RefusedUnmade disk files files result
-unmade_anyway disk files result = unmade_too disk files files result (uncreated_anyway disk files result)
-
 -- what holds of an Ok, of two things
 pub ok_both : (result : Result (Unit {0}) CommandRefusal) (P Q : Type 0) → OnOk result P → OnOk result Q → OnOk result (P × Q)
 ok_both (Ok _) P Q p q = (p, q)
@@ -183,24 +183,24 @@ halted_unwritten (Ok _) files before after printed shown refused halted same is 
 halted_unwritten (Err refusal) files before after printed shown refused halted same is h = (refl, subst (λ (values : List Shown). IsOfHalt before after values halted refusal) same (subst (λ (r : CommandRefusal). IsOfHalt before after printed r refusal) is h))
 
 -- a refusal of the dump is one of the writing
-pub writing_of : {F W : Type 0} (disk : Disk F W) (path bytes : List ℕ) (to : F) (refusal : CommandRefusal) → IsOfDumping disk path bytes refusal
-    → IsOfWritingRun disk path bytes to refusal
-writing_of disk path bytes to (Layout fault) h = h
-writing_of disk path bytes to (Mutator refused) h = h
-writing_of disk path bytes to (Sweep fault) h = h
-writing_of disk path bytes to (Trace fault) h = h
-writing_of disk path bytes to (Dump fault) h = h
-writing_of disk path bytes to (Audit fault) h = h
-writing_of disk path bytes to (Moved fault) h = h
-writing_of disk path bytes to (CannotWrite output) h = h
-writing_of disk path bytes to (CannotOpen input) h = h
-writing_of disk path bytes to (CannotCreate output) h = h
-writing_of disk path bytes to (ReadFailed input) h = h
-writing_of disk path bytes to CannotPrint h = absurd h
-writing_of disk path bytes to (NoSuchWord index) h = h
-writing_of disk path bytes to (BadMarks line) h = h
-writing_of disk path bytes to (BadRoots line) h = h
-writing_of disk path bytes to OutOfMemory h = h
+pub writing_of : {F W : Type 0} (disk : Disk F W) (path bytes : List ℕ) (to : F) (before after : Option (List ℕ)) (lines : List ℕ) (refusal : CommandRefusal) → IsOfDumping disk path bytes to refusal
+    → IsOfWritingRun disk path bytes to before after lines refusal
+writing_of disk path bytes to before after lines (Layout fault) h = h
+writing_of disk path bytes to before after lines (Mutator refused) h = h
+writing_of disk path bytes to before after lines (Sweep fault) h = h
+writing_of disk path bytes to before after lines (Trace fault) h = h
+writing_of disk path bytes to before after lines (Dump fault) h = h
+writing_of disk path bytes to before after lines (Audit fault) h = h
+writing_of disk path bytes to before after lines (Moved fault) h = h
+writing_of disk path bytes to before after lines (CannotWrite output) h = h
+writing_of disk path bytes to before after lines (CannotOpen input) h = h
+writing_of disk path bytes to before after lines (CannotCreate output) h = h
+writing_of disk path bytes to before after lines (ReadFailed input) h = h
+writing_of disk path bytes to before after lines CannotPrint h = absurd h
+writing_of disk path bytes to before after lines (NoSuchWord index) h = h
+writing_of disk path bytes to before after lines (BadMarks line) h = h
+writing_of disk path bytes to before after lines (BadRoots line) h = h
+writing_of disk path bytes to before after lines OutOfMemory h = h
 
 -- the dump of a finished heap has its parts
 pub dumped_same : (mutators fresh : ℕ) (f : Finished) (dump : Dumped) → dump.edition ≡ edition_in f → dump.mutators ≡ mutators → dump.fresh ≡ fresh → dump.roots ≡ roots_of f → dump.pages ≡ map record_of (pages_of f)
@@ -208,18 +208,17 @@ pub dumped_same : (mutators fresh : ℕ) (f : Finished) (dump : Dumped) → dump
 dumped_same mutators fresh f dump ee em en er ep eb et =
     same_parts dump.edition (edition_in f) dump.mutators mutators dump.fresh fresh dump.total (live_of f) dump.roots (roots_of f) dump.pages (map record_of (pages_of f)) dump.builds (builds_in f) ee em en er ep eb et
 
--- A run prints its values, then its live words. If these fail, the dump was written, and a call of the output failed.
+-- A run prints its values, then its live words. If these fail, the dump was written, a call of the output failed, and a
+-- beginning of them was printed.
 pub printed_run : (before between after : Option (List ℕ)) (values line : List ℕ) (result : Result (Unit {0}) CommandRefusal) → Appends before between values → OnOk result (Appends between after line)
     → OnOk result (Appends before after (values ++ line))
 printed_run before between after values line (Ok _) printed last = Appends-trans before between after values line printed last
 printed_run before between after values line (Err refusal) printed last = tt
 
-pub unprinted_run : {F W : Type 0} (disk : Disk F W) (path bytes : List ℕ) (to : F) (result : Result (Unit {0}) CommandRefusal) → OnErr result (result ≡ Err CannotPrint)
-    → WritesWhole disk outputs.Dump path bytes to → IfErr result (IsOfWritingRun disk path bytes to)
-unprinted_run disk path bytes to (Ok _) cause written = tt
-unprinted_run disk path bytes to (Err refusal) cause written =
-    let is : refusal ≡ CannotPrint = cc in
-    subst (IsOfWritingRun disk path bytes to) (sym is) written
+pub unprinted_run : {F W : Type 0} (disk : Disk F W) (path bytes : List ℕ) (to : F) (before after : Option (List ℕ)) (lines : List ℕ) (result : Result (Unit {0}) CommandRefusal) → OnErr result (result ≡ Err CannotPrint)
+    → OnErr result (AppendsSome before after lines) → WritesWhole disk outputs.Dump path bytes to → IfErr result (IsOfWritingRun disk path bytes to before after lines)
+unprinted_run disk path bytes to before after lines result cause begun written =
+    failed_by (IsOfWritingRun disk path bytes to before after lines) (AppendsSome before after lines) (λ some. (written, some)) result cause begun
 
 pub of_unprinted : (result : Result (Unit {0}) CommandRefusal) (refusal : CommandRefusal) → result ≡ Err refusal → result ≡ Err CannotPrint → refusal ≡ CannotPrint
 of_unprinted result refusal is cause = cc
@@ -258,7 +257,7 @@ module _ {F W : Type 0} (disk : Disk F W) (asked : TraceRun) (to : F) (before be
     ),
   )
 
-  pub unflushed_run : (from : F) → SomeRun disk asked (Replays disk asked to before between)
+  pub unflushed_run : (from : F) → Keeps between after → SomeRun disk asked (Replays disk asked to before between)
       → SomeRun disk asked (RefusesRun (replaying asked.mutators asked.fresh) disk asked from to before after CannotPrint)
-  unflushed_run from (bytes, is_there, (heap, stored, accepted, (known, (more, is_near, (text, is_text, (lines, has_lines, h)))))) =
-      (bytes, is_there, (heap, stored, accepted, (known, (more, is_near, (text, is_text, (lines, has_lines, inl (h.run, h.written)))))))
+  unflushed_run from kept (bytes, is_there, (heap, stored, accepted, (known, (more, is_near, (text, is_text, (lines, has_lines, h)))))) =
+      (bytes, is_there, (heap, stored, accepted, (known, (more, is_near, (text, is_text, (lines, has_lines, inl (h.run, h.written, unflushed before between after _ h.printed kept)))))))

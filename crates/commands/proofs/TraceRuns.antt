@@ -3,6 +3,7 @@ use Rattle.std.proofs.Common.{◌≡◌, ℕ, List, Option, Result, Ok, Err, IfE
 use Rattle.std.specs.Bool.{⊤}
 use Rattle.std.specs.Io.KnownBytes.{Appends, Keeps}
 use Rattle.heap_layout.specs.Heap.{Heap}
+use Rattle.heap_layout.specs.Writing.{AppendsSome}
 use Rattle.comp_mutator.specs.Finishes.{live_of}
 use Rattle.comp_mutator.specs.Finished.{Finished}
 use Rattle.comp_trace.specs.declared.text.fault.TraceFault.{TraceFault}
@@ -22,7 +23,7 @@ use Rattle.command_io.specs.declared.refusal.CommandRefusal.{CommandRefusal}
 use Rattle.command_io.specs.declared.refusal.CommandRefusal.TheVariants.{Layout, Mutator, Sweep, Trace, Dump, Audit, Moved, CannotWrite, CannotOpen, CannotCreate, ReadFailed, CannotPrint, NoSuchWord, BadMarks, OutOfMemory, BadRoots}
 use Rattle.command_io.proofs.Imaged.{of_heap}
 use Rattle.commands.specs.Outcomes.{printed_of, refusal_of, IsHaltedBy, IsWritten, RefusesInputs, RefusesOutcome}
-use Rattle.commands.specs.Replays.{dumped_of, shown_lines, IsHaltedRun, IsOfWritingRun, PrintsRun, RefusesRun, RefusesTrace, RefusesTraced, SomeRun, StopsRun, Way}
+use Rattle.commands.specs.Replays.{dumped_of, run_lines, shown_lines, IsHaltedRun, IsOfWritingRun, PrintsRun, RefusesRun, RefusesTrace, RefusesTraced, SomeRun, StopsRun, Way}
 use Rattle.commands.specs.declared.replays.Replayed.{Replayed}
 
 -- the lines of a text for the number of the heap's roots
@@ -132,11 +133,11 @@ module _ {F W : Type 0} (way : Way) (disk : Disk F W) (asked : TraceRun) (from t
       of_halt shown printed OutOfMemory h = tt
 
       -- or a call of the output failed
-      of_halt_unprinted : (shown : List Shown) (refusal : CommandRefusal) → to ≡ from → IsHaltedRun way.cuts lines shown heap refusal → IsCause CannotPrint
-      of_halt_unprinted shown refusal same h = by_run CannotPrint (inr (refusal, shown, same, h))
+      of_halt_unprinted : (shown : List Shown) (refusal : CommandRefusal) → to ≡ from → AppendsSome before after (shown_lines shown) → IsHaltedRun way.cuts lines shown heap refusal → IsCause CannotPrint
+      of_halt_unprinted shown refusal same begun h = by_run CannotPrint (inr (refusal, shown, same, h, begun))
 
       -- they ran, and the dump was not written, or a call of the output failed
-      of_writing : (left : way.leaves lines heap) (refusal : CommandRefusal) → IsOfWritingRun disk asked.dump.now (way.dump lines heap left) to refusal → IsCause refusal
+      of_writing : (left : way.leaves lines heap) (refusal : CommandRefusal) → IsOfWritingRun disk asked.dump.now (way.dump lines heap left) to before after (way.text lines heap left) refusal → IsCause refusal
       of_writing left (Layout fault) w = absurd w
       of_writing left (Mutator refused) w = absurd w
       of_writing left (Sweep fault) w = absurd w
@@ -151,24 +152,26 @@ module _ {F W : Type 0} (way : Way) (disk : Disk F W) (asked : TraceRun) (from t
       of_writing left (Moved fault) w = absurd w
       of_writing left (CannotWrite output) w = absurd w
       of_writing left (CannotOpen input) w = absurd w
-      of_writing left (CannotCreate output) w = by_run (CannotCreate output) (w.0, w.1, left)
+      of_writing left (CannotCreate output) w = by_run (CannotCreate output) (w.0, w.1, w.2, left)
       of_writing left (ReadFailed input) w = absurd w
-      of_writing left CannotPrint w = by_run CannotPrint (inl (left, w))
+      of_writing left CannotPrint w = by_run CannotPrint (inl (left, w.0, w.1))
       of_writing left (NoSuchWord index) w = absurd w
       of_writing left (BadMarks line) w = absurd w
       of_writing left (BadRoots line) w = absurd w
       of_writing left OutOfMemory w = tt
 
-      -- What follows from what became of the run, if what a run leaves has the dump of its heap.
+      -- What follows from what became of the run, if what a run leaves has the dump of its heap and the lines of its values.
       module _ (HasRun : List Shown → Finished → Type 0) (left_of : (shown : List Shown) (f : Finished) → HasRun shown f → way.leaves lines heap)
-          (dump_is : (shown : List Shown) (f : Finished) (h : HasRun shown f) → way.dump lines heap (left_of shown f h) ≡ dump_bytes (dumped_of asked.mutators asked.fresh f)) where
+          (dump_is : (shown : List Shown) (f : Finished) (h : HasRun shown f) → way.dump lines heap (left_of shown f h) ≡ dump_bytes (dumped_of asked.mutators asked.fresh f))
+          (text_is : (shown : List Shown) (f : Finished) (h : HasRun shown f) → way.text lines heap (left_of shown f h) ≡ run_lines shown (live_of f)) where
         of_outcome : (outcome : Result Replayed Halt) → IfOk outcome (λ run. HasRun run.shown.items run.finished) → IfErr outcome (λ halt. IsHaltedRun way.cuts lines (printed_of halt) heap (refusal_of halt))
             → (refusal : CommandRefusal) → RefusesOutcome disk asked from to before after outcome refusal → IsCause refusal
         of_outcome (Ok run) ran halted refusal h =
             of_writing (left_of run.shown.items run.finished ran) refusal
-            (subst (λ (bytes : List ℕ). IsOfWritingRun disk asked.dump.now bytes to refusal) (sym (dump_is run.shown.items run.finished ran)) h)
+            (subst (λ (bytes : List ℕ). IsOfWritingRun disk asked.dump.now bytes to before after (way.text lines heap (left_of run.shown.items run.finished ran)) refusal) (sym (dump_is run.shown.items run.finished ran))
+            (subst (λ (text : List ℕ). IsOfWritingRun disk asked.dump.now (dump_bytes (dumped_of asked.mutators asked.fresh run.finished)) to before after text refusal) (sym (text_is run.shown.items run.finished ran)) h))
         of_outcome (Err halt) ran halted refusal (same, inl (is, printed)) = subst IsCause (sym is) (of_halt (printed_of halt) printed (refusal_of halt) halted)
-        of_outcome (Err halt) ran halted refusal (same, inr is) = subst IsCause (sym is) (of_halt_unprinted (printed_of halt) (refusal_of halt) same halted)
+        of_outcome (Err halt) ran halted refusal (same, inr (is, begun)) = subst IsCause (sym is) (of_halt_unprinted (printed_of halt) (refusal_of halt) same begun halted)
 
         pub of_outcome_err : (outcome : Result Replayed Halt) → IfOk outcome (λ run. HasRun run.shown.items run.finished) → IfErr outcome (λ halt. IsHaltedRun way.cuts lines (printed_of halt) heap (refusal_of halt))
             → (result : Result (Unit {0}) CommandRefusal) → IfErr result (RefusesOutcome disk asked from to before after outcome) → IfErr result IsCause

@@ -1,19 +1,19 @@
 -- What the command `map` does: it draws the heap of an image, and a dump of it if there is one. Which bytes a picture has
 -- is tested, not stated here.
-use Rattle.std.specs.Prelude.{◌≡◌, ◌⊎◌, ℕ, false, List, Option, Some, None, MatchOption, ⊤}
+use Rattle.std.specs.Prelude.{◌⊎◌, ℕ, false, List, Option, Some, None, MatchOption}
 use Rattle.heap_layout.specs.Heap.{Heap}
 use Rattle.comp_dump.specs.declared.fault.AuditFault.{AuditFault}
 use Rattle.comp_audit.specs.declared.verdict.Verdict.{Verdict}
 use Rattle.comp_audit.specs.declared.verdict.Verdict.TheVariants.{No, Yes}
 use Rattle.command_line.specs.Maps.{Mapping}
 use Rattle.command_line.specs.Runs as runs
-use Rattle.command_io.specs.Disk.{Disk}
+use Rattle.command_io.specs.Disk.{Disk, LeavesCounted}
 use Rattle.command_io.specs.Images.{RefusesAt, RefusesImage, SomeHeapAt}
 use Rattle.command_io.specs.Pictures.{DrawsWhole, IsOfDrawing}
 use Rattle.command_io.specs.declared.refusal.CommandRefusal.{CommandRefusal}
 use Rattle.command_io.specs.declared.refusal.CommandRefusal.TheVariants.{CannotPrint}
 use Rattle.commands.specs.Audits.{FailsCompared, SomeAudit}
-use Rattle.commands.specs.Compact.{PrintsLive}
+use Rattle.commands.specs.Compact.{BeginsLive, PrintsLive}
 
 -- the plain audit of the dump at a path, against the image that is drawn
 abbrev pub audit_for : Mapping → List ℕ → runs.Audit
@@ -39,12 +39,13 @@ pub record Maps {F W : Type 0} (disk : Disk F W) (path : List ℕ) (to : F) (bef
 abbrev pub FailsMap : {F W : Type 0} → Disk F W → Mapping → CommandRefusal → Type 0
 FailsMap disk asked refusal = MatchOption asked.dump (RefusesAt disk asked.large asked.image RefusesImage refusal) (λ path. FailsCompared disk (audit_for asked path) refusal)
 
--- why a picture was not written, or its line not printed: then a call of the output failed, which `CountsPrint` counts
-abbrev pub IsOfWritingMap : {F W : Type 0} → Disk F W → List ℕ → F → CommandRefusal → Type 0
-IsOfWritingMap disk path to CannotPrint = DrawsWhole disk path to
-IsOfWritingMap disk path to refusal = IsOfDrawing disk path refusal
+-- why a picture was not written, or the line of its heap not printed: then a call of the output failed, which
+-- `CountsPrint` counts, and a beginning of the line was printed between these two contents of the output
+abbrev pub IsOfWritingMap : {F W : Type 0} → Disk F W → List ℕ → F → Option (List ℕ) → Option (List ℕ) → Heap → CommandRefusal → Type 0
+IsOfWritingMap disk path to before after heap CannotPrint = DrawsWhole disk path to × BeginsLive before after heap
+IsOfWritingMap disk path to before after heap refusal = IsOfDrawing disk path to refusal
 
--- why the command is refused: there is nothing to draw, and the files stayed as they were; or there is, and the picture
--- was not written, or its line not printed
-abbrev pub RefusesMap : {F W : Type 0} → Disk F W → Mapping → F → F → CommandRefusal → Type 0
-RefusesMap disk asked from to refusal = ((to ≡ from) × FailsMap disk asked refusal) ⊎ (SomeMap disk asked (λ heap. ⊤) × IsOfWritingMap disk asked.out to refusal)
+-- why the command is refused: there is nothing to draw, and the files stayed as they were, but for a failed call that the
+-- refusal names; or there is, and the picture was not written, or its line not printed
+abbrev pub RefusesMap : {F W : Type 0} → Disk F W → Mapping → F → F → Option (List ℕ) → Option (List ℕ) → CommandRefusal → Type 0
+RefusesMap disk asked from to before after refusal = (LeavesCounted disk from to refusal × FailsMap disk asked refusal) ⊎ SomeMap disk asked (λ heap. IsOfWritingMap disk asked.out to before after heap refusal)

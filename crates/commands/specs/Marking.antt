@@ -4,13 +4,13 @@ use Rattle.heap_layout.specs.Encoding.{encoding}
 use Rattle.heap_layout.specs.Faults.{faults, IsAccepted}
 use Rattle.heap_layout.specs.Heap.{Heap, IsStored}
 use Rattle.reachability.specs.Reachable.{AreReachable, RefusesFor}
-use Rattle.command_io.specs.Disk.{Disk, WritesWhole}
+use Rattle.command_io.specs.Disk.{Disk, LeavesCounted, WritesWhole}
 use Rattle.command_io.specs.ImageParts.{RefusesImageParts, SomePartsAt}
 use Rattle.command_io.specs.Images.{RefusesAt}
 use Rattle.command_io.specs.declared.refusal.Output.TheVariants as outputs
 use Rattle.command_io.specs.declared.refusal.CommandRefusal.{CommandRefusal}
 use Rattle.command_io.specs.declared.refusal.CommandRefusal.TheVariants.{Layout, OutOfMemory}
-use Rattle.commands.specs.Compact.{PrintsLive}
+use Rattle.commands.specs.Compact.{live_line, PrintsLive}
 use Rattle.commands.specs.Nexts.{IsOfWritingNext}
 
 -- the same parts with other marks
@@ -47,9 +47,9 @@ IsUnmarkable parts _ = ⊥
 abbrev pub RefusesMarking : {F W : Type 0} → Disk F W → Bool → List ℕ → CommandRefusal → Type 0
 RefusesMarking disk large image refusal = RefusesAt disk large image RefusesImageParts refusal ⊎ SomePartsAt disk large image (λ parts. IsUnmarkable parts refusal)
 
--- why the command is refused: there is no marked heap, and the files stayed as they were; or there is, and it was not
--- written, or its line not printed
-abbrev pub RefusesMark : {F W : Type 0} → Disk F W → Bool → List ℕ → List ℕ → F → F → CommandRefusal → Type 0
-RefusesMark disk large image new from to refusal =
-    ((to ≡ from) × RefusesMarking disk large image refusal)
-    ⊎ SomePartsAt disk large image (λ parts. (heap : Heap) × IsMarkedHeap parts heap × IsOfWritingNext disk new (encoding heap) to refusal)
+-- why the command is refused: there is no marked heap, and the files stayed as they were, but for a failed call that the
+-- refusal names; or there is, and it was not written, or its line not printed
+abbrev pub RefusesMark : {F W : Type 0} → Disk F W → Bool → List ℕ → List ℕ → F → F → Option (List ℕ) → Option (List ℕ) → CommandRefusal → Type 0
+RefusesMark disk large image new from to before after refusal =
+    (LeavesCounted disk from to refusal × RefusesMarking disk large image refusal)
+    ⊎ SomePartsAt disk large image (λ parts. (heap : Heap) × IsMarkedHeap parts heap × IsOfWritingNext disk new (encoding heap) to before after (live_line heap) refusal)

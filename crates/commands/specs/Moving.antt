@@ -3,6 +3,7 @@ use Rattle.std.specs.Prelude.{◌≡◌, ℕ, Bool, List, ◌++◌, Option, IfSo
 use Rattle.std.specs.Io.KnownBytes.{Appends}
 use Rattle.heap_layout.specs.Heap.{Heap, live}
 use Rattle.heap_layout.specs.Encoding.{RefusesBy}
+use Rattle.heap_layout.specs.Writing.{AppendsSome}
 use Rattle.page_plan.specs.Sliding.{live_words}
 use Rattle.comp_dump.specs.DumpReading.{Fails}
 use Rattle.moved_heaps.specs.Moved.{Moved, IsLawful}
@@ -63,6 +64,11 @@ pub record PrintsMoves (before after : Option (List ℕ)) (heap : Heap) (moved :
   pub lawful : IsLawful heap moved
   pub printed : Appends before after (moves_lines (live_words (live heap)) (length heap.marks))
 
+-- the heap may have moved so, and a beginning of its lines was printed between these two contents of the output
+pub record BeginsMoves (before after : Option (List ℕ)) (heap : Heap) (moved : Moved) : Type 0 where
+  pub lawful : IsLawful heap moved
+  pub begun : AppendsSome before after (moves_lines (live_words (live heap)) (length heap.marks))
+
 -- Why the moved heap did not pass. The image is read first: there is none, or it is refused. Then the moved heap: there is
 -- none, or its bytes are none. Then it is judged: this is its first fault. Or memory ran out.
 abbrev pub FailsMoved : {F W : Type 0} → Disk F W → Bool → List ℕ → List ℕ → CommandRefusal → Type 0
@@ -75,7 +81,8 @@ FailsMoved disk large image path (refusals.Moved fault) = SomeMove disk large im
 FailsMoved disk large image path refusals.OutOfMemory = Unit {0}
 FailsMoved disk large image path _ = ⊥
 
--- why its lines were not printed: it did not pass; or it did, and a call of the output failed, which `CountsPrint` counts
-abbrev pub RefusesMoved : {F W : Type 0} → Disk F W → Bool → List ℕ → List ℕ → CommandRefusal → Type 0
-RefusesMoved disk large image path refusals.CannotPrint = SomeMove disk large image path IsLawful
-RefusesMoved disk large image path refusal = FailsMoved disk large image path refusal
+-- why its lines were not printed: it did not pass; or it did, a call of the output failed, which `CountsPrint` counts,
+-- and a beginning of its lines was printed
+abbrev pub RefusesMoved : {F W : Type 0} → Disk F W → Bool → List ℕ → List ℕ → Option (List ℕ) → Option (List ℕ) → CommandRefusal → Type 0
+RefusesMoved disk large image path before after refusals.CannotPrint = SomeMove disk large image path (BeginsMoves before after)
+RefusesMoved disk large image path before after refusal = FailsMoved disk large image path refusal

@@ -2,6 +2,7 @@
 use Rattle.std.specs.Prelude.{◌≡◌, ◌⊎◌, ℕ, List, length, Option, Some, None, Result, Ok, Err}
 use Rattle.heap_layout.specs.Encoding.{encoding}
 use Rattle.heap_layout.specs.Heap.{live, Heap}
+use Rattle.heap_layout.specs.Writing.{AppendsSome}
 use Rattle.page_plan.specs.Sliding.{live_words}
 use Rattle.comp_trace.specs.declared.steps.shown.Shown.{Shown}
 use Rattle.comp_trace.specs.declared.text.line.Line.{Line}
@@ -20,7 +21,7 @@ use Rattle.command_io.specs.declared.refusal.Output.TheVariants as outputs
 use Rattle.command_io.specs.declared.refusal.CommandRefusal.{CommandRefusal}
 use Rattle.command_io.specs.declared.refusal.CommandRefusal.TheVariants.{CannotPrint}
 use Rattle.commands.specs.Outcomes.{IsOfHalt, RefusesInputs}
-use Rattle.commands.specs.Replays.{PrintsRun}
+use Rattle.commands.specs.Replays.{run_lines, PrintsRun}
 use Rattle.commands.specs.Cycled.{Given, IsCycledHeap, IsUncycled, refusal_by, shown_by}
 use Rattle.commands.specs.declared.cycling.Cycled.{Cycled}
 use Rattle.commands.specs.declared.cycling.Uncycled.{Uncycled}
@@ -37,18 +38,19 @@ pub record Nexts {F W : Type 0} (disk : Disk F W) (asked : NextRun) (to : F) (be
   pub printed : PrintsRun before after shown (live_words (live next))
 
 -- why the image of the next heap, or of another new one, was not written, or the lines after it not printed: there is
--- no place for the image; or a call of its writer failed; or it was written, and a call of the output failed, which
--- `CountsPrint` counts; or memory ran out
-abbrev pub IsOfWritingNext : {F W : Type 0} → Disk F W → List ℕ → List ℕ → F → CommandRefusal → Type 0
-IsOfWritingNext disk path bytes to CannotPrint = WritesWhole disk outputs.New path bytes to
-IsOfWritingNext disk path bytes to refusal = IsOfWritingImage disk path bytes refusal
+-- no place for the image; or a call of its writer failed; or it was written, a call of the output failed, which
+-- `CountsPrint` counts, and a beginning of the lines was printed between these two contents of the output; or memory ran
+-- out
+abbrev pub IsOfWritingNext : {F W : Type 0} → Disk F W → List ℕ → List ℕ → F → Option (List ℕ) → Option (List ℕ) → List ℕ → CommandRefusal → Type 0
+IsOfWritingNext disk path bytes to before after lines CannotPrint = WritesWhole disk outputs.New path bytes to × AppendsSome before after lines
+IsOfWritingNext disk path bytes to before after lines refusal = IsOfWritingImage disk path bytes to refusal
 
 -- why the cycle does not come to its end, or is not written or printed: if its lines were halted, the files stayed as
 -- they were, and what the lines had shown was printed
 abbrev pub RefusesCycle : {F W : Type 0} → Disk F W → NextRun → F → F → Option (List ℕ) → Option (List ℕ) → List Line → Given → Heap → CommandRefusal → Type 0
 RefusesCycle disk asked from to before after lines given heap refusal =
     ((shown : List Shown) × (halted : CommandRefusal) × IsUncycled asked.mutators asked.fresh lines shown given heap halted × (to ≡ from) × IsOfHalt before after shown halted refusal)
-    ⊎ ((shown : List Shown) × (next : Heap) × IsCycledHeap asked.mutators asked.fresh lines shown given heap next × IsOfWritingNext disk asked.new.now (encoding next) to refusal)
+    ⊎ ((shown : List Shown) × (next : Heap) × IsCycledHeap asked.mutators asked.fresh lines shown given heap next × IsOfWritingNext disk asked.new.now (encoding next) to before after (run_lines shown (live_words (live next))) refusal)
 
 -- ---- from the files
 
@@ -114,5 +116,6 @@ IsWrittenNext disk path to before after (Err left) = ⊥
 
 -- why it was not written or printed, or was halted, which leaves the files as they were
 abbrev pub RefusesWriting : {F W : Type 0} → Disk F W → List ℕ → F → F → Option (List ℕ) → Option (List ℕ) → Result Cycled Uncycled → CommandRefusal → Type 0
-RefusesWriting disk path from to before after (Ok cycled) refusal = IsOfWritingNext disk path (encoding cycled.heap) to refusal
+RefusesWriting disk path from to before after (Ok cycled) refusal =
+    IsOfWritingNext disk path (encoding cycled.heap) to before after (run_lines cycled.shown.items (live_words (live cycled.heap))) refusal
 RefusesWriting disk path from to before after (Err left) refusal = (to ≡ from) × IsOfHalt before after (shown_by left) (refusal_by left) refusal

@@ -25,7 +25,7 @@ use Rattle.comp_dump.specs.DumpEncoding.{dump_bytes}
 use Rattle.commands.specs.ByLine.{AreByLine, HasEnded, IsLeastRefusedLine}
 use Rattle.command_line.specs.declared.words.TraceRun.{TraceRun}
 use Rattle.command_io.specs.Disk.{Disk, WritesWhole}
-use Rattle.commands.specs.Replays.{dumped_of, IsDumpAfter, IsHaltedRun, PrintsRun, RefusesTraced, Way}
+use Rattle.commands.specs.Replays.{dumped_of, run_lines, IsDumpAfter, IsHaltedRun, PrintsRun, RefusesTraced, Way}
 use Rattle.command_io.specs.Texts.{HasLines}
 use Rattle.command_io.specs.declared.refusal.Output.TheVariants as outputs
 use Rattle.command_io.specs.declared.refusal.CommandRefusal.{CommandRefusal}
@@ -116,7 +116,7 @@ PrintsRace mutators fresh before after heap = (text : List ℕ) × (lines : List
 
 -- the way of a race
 abbrev pub racing : ℕ → ℕ → Way
-racing mutators fresh = record { cuts = InterruptsRace mutators fresh; leaves = HasRace mutators fresh; dump = λ lines heap race. dump_of_race race }
+racing mutators fresh = record { cuts = InterruptsRace mutators fresh; leaves = HasRace mutators fresh; dump = λ lines heap race. dump_of_race race; text = λ lines heap race. run_lines race.shown (live_of race.left) }
 
 -- why the command is refused: as a command that runs a trace is, by the race
 abbrev pub RefusesRace : {F W : Type 0} → Disk F W → TraceRun → F → F → Option (List ℕ) → Option (List ℕ) → CommandRefusal → Type 0

@@ -3,18 +3,21 @@ ghost use Rattle.std.specs.Prelude.{◌≡◌, ◌-◌, ◌^◌, ◌<◌, false,
 ghost use Rattle.heap_layout.specs.Counted.{inner_of, failures_of};
 ghost use Rattle.comp_audit.specs.Judged.{Judges};
 ghost use Rattle.command_line.specs.Runs.{audit_of};
-ghost use Rattle.commands.specs.Audits.{faults_by, FailsAudit, HasPassed, IsDumpAt, Passes, RefusesAudit, RefusesDumpAt, SomeAudit, LeavesUnexplained};
+ghost use Rattle.commands.specs.Audits.{faults_by, FailsAudit, FailsCompared, HasPassed, IsDumpAt, IsDumpIn, Passes, RefusesAudit, RefusesDump, RefusesDumpAt, SomeAudit, LeavesUnexplained};
+ghost use Rattle.command_io.specs.Disk.{LeavesRead};
+ghost use Rattle.command_io.specs.Images.{IsHeapAt};
+ghost use Rattle.command_io.specs.Reading.{CountsRead};
 ghost use Rattle.command_io.specs.declared.refusal.CommandRefusal.TheVariants as refusals;
 ghost use Rattle.commands.specs.Leaving.{LeavesOutput};
 
 use crate::explained::print_explained;
-use command_io::{CommandRefusal, Files, Input, heap_at, print_line};
+use command_io::{CommandRefusal, Files, Input, end_reading, heap_at, print_line};
 use command_line::AuditRun;
 use comp_audit::{Dump, Verdict, audit, audit_whole, read_dump, read_large_dump, read_words};
 use heap_layout::{Counted, MarkedHeap, OutOfMemory};
 use page_plan::Plan;
 use std::alloc::Global;
-use std::io::Write;
+use std::io::{Read, Write};
 use std::thread::Threads;
 
 /// Audits the dump at `run.dump` against the heap image at `run.image`, which is read first. Both are of edition three
@@ -28,14 +31,15 @@ use std::thread::Threads;
 pub fn print_audit<F: Files, O: Write>(
     alloc: Global,
     rt: &(impl Threads + Sync),
-    files: &F,
+    files: &mut F,
     run: AuditRun,
     out: &mut Counted<&mut O>,
 ) -> Result<(), CommandRefusal>
     requires written { failures_of out.old < 2 ^ 64 - 1 }
-    ensures passed { OnOk result (SomeAudit (F.disk files.now) (audit_of run.entry) (Passes (audit_of run.entry) (O.contents (inner_of out.old).now) (O.contents (inner_of out.new).now))) }
-    ensures cause { IfErr result (RefusesAudit (F.disk files.now) (audit_of run.entry)) }
-    ensures output { LeavesOutput (LeavesUnexplained (F.disk files.now) (audit_of run.entry)) O.contents out.old out.new result }
+    ensures passed { OnOk result (SomeAudit (F.disk files.old) (audit_of run.entry) (Passes (audit_of run.entry) (O.contents (inner_of out.old).now) (O.contents (inner_of out.new).now))) }
+    ensures cause { IfErr result (RefusesAudit (F.disk files.old) (audit_of run.entry) (O.contents (inner_of out.old).now) (O.contents (inner_of out.new).now)) }
+    ensures output { LeavesOutput (LeavesUnexplained (F.disk files.old) (audit_of run.entry)) O.contents out.old out.new result }
+    ensures left { LeavesRead (F.disk files.old) files.old files.new result }
 {
     if run.explain {
         print_explained(alloc, rt, files, &run, out)
@@ -49,15 +53,16 @@ pub fn print_audit<F: Files, O: Write>(
 fn print_plain<F: Files, O: Write>(
     alloc: Global,
     rt: &(impl Threads + Sync),
-    files: &F,
+    files: &mut F,
     run: &AuditRun,
     out: &mut Counted<&mut O>,
 ) -> Result<(), CommandRefusal>
     requires plain { run.now.explain ≡ false }
     requires written { failures_of out.old < 2 ^ 64 - 1 }
-    ensures passed { OnOk result (SomeAudit (F.disk files.now) (audit_of run.now) (Passes (audit_of run.now) (O.contents (inner_of out.old).now) (O.contents (inner_of out.new).now))) }
-    ensures cause { IfErr result (RefusesAudit (F.disk files.now) (audit_of run.now)) }
-    ensures output { LeavesOutput (LeavesUnexplained (F.disk files.now) (audit_of run.now)) O.contents out.old out.new result }
+    ensures passed { OnOk result (SomeAudit (F.disk files.old) (audit_of run.now) (Passes (audit_of run.now) (O.contents (inner_of out.old).now) (O.contents (inner_of out.new).now))) }
+    ensures cause { IfErr result (RefusesAudit (F.disk files.old) (audit_of run.now) (O.contents (inner_of out.old).now) (O.contents (inner_of out.new).now)) }
+    ensures output { LeavesOutput (LeavesUnexplained (F.disk files.old) (audit_of run.now)) O.contents out.old out.new result }
+    ensures left { LeavesRead (F.disk files.old) files.old files.new result }
 {
     let words = audited_words(alloc, rt, files, run)?;
     print_line("ok ", words, out)
@@ -67,16 +72,16 @@ fn print_plain<F: Files, O: Write>(
 fn audited_words<F: Files>(
     alloc: Global,
     rt: &(impl Threads + Sync),
-    files: &F,
+    files: &mut F,
     run: &AuditRun,
 ) -> Result<u64, CommandRefusal>
-    ensures passed { IfOk result (λ words. SomeAudit (F.disk files.now) (audit_of run.now) (HasPassed run.now.whole words)) }
-    ensures cause { IfErr result (FailsAudit (F.disk files.now) (audit_of run.now)) }
+    ensures passed { IfOk result (λ words. SomeAudit (F.disk files.old) (audit_of run.now) (HasPassed run.now.whole words)) }
+    ensures cause { IfErr result (FailsAudit (F.disk files.old) (audit_of run.now)) }
+    ensures left { LeavesRead (F.disk files.old) files.old files.new result }
 {
-    let heap = heap_at(alloc, files, run.image, run.large)?;
-    let judged = dump_at(alloc, files, run)?;
-    match verdict_of(alloc, rt, heap, &judged, run.whole)? {
-        Verdict::Yes => Ok(judged.live_words()),
+    let audited = audited_at(alloc, files, run)?;
+    match verdict_of(alloc, rt, audited.heap, &audited.dump, run.whole)? {
+        Verdict::Yes => Ok(audited.dump.live_words()),
         Verdict::No(fault) => Err(CommandRefusal::Audit(fault)),
     }
 }
@@ -114,22 +119,61 @@ pub(crate) fn verdict_by(
     }
 }
 
-/// Reads what is audited: a file of words and roots, or a dump.
-pub(crate) fn dump_at<F: Files>(
+/// What is audited: the heap of an image, and a dump.
+#[derive(Drop)]
+pub struct Audited {
+    pub heap: MarkedHeap,
+    pub dump: Dump<'static>,
+}
+
+/// Reads the heap of an image, and then what is audited. A refusal for a call of a file that failed counts it.
+pub(crate) fn audited_at<F: Files>(
     alloc: Global,
-    files: &F,
+    files: &mut F,
+    run: &AuditRun,
+) -> Result<Audited, CommandRefusal>
+    ensures heap { IfOk result (λ audited. IsHeapAt (F.disk files.old) (audit_of run.now).large (audit_of run.now).image audited.heap) }
+    ensures dump { IfOk result (λ audited. IsDumpAt (F.disk files.old) (audit_of run.now) audited.dump) }
+    ensures cause { IfErr result (FailsCompared (F.disk files.old) (audit_of run.now)) }
+    ensures left { LeavesRead (F.disk files.old) files.old files.new result }
+{
+    let heap = heap_at(alloc, files, run.image, run.large)?;
+    let dump = dump_at(alloc, files, run)?;
+    Ok(Audited { heap, dump })
+}
+
+// Reads what is audited: a file of words and roots, or a dump.
+fn dump_at<F: Files>(
+    alloc: Global,
+    files: &mut F,
     run: &AuditRun,
 ) -> Result<Dump<'static>, CommandRefusal>
-    ensures dump { IfOk result (IsDumpAt (F.disk files.now) (audit_of run.now)) }
-    ensures cause { IfErr result (RefusesDumpAt (F.disk files.now) (audit_of run.now)) }
+    ensures dump { IfOk result (IsDumpAt (F.disk files.old) (audit_of run.now)) }
+    ensures cause { IfErr result (RefusesDumpAt (F.disk files.old) (audit_of run.now)) }
+    ensures left { LeavesRead (F.disk files.old) files.old files.new result }
 {
     let mut reader = Counted::new(files.open(Input::Dump, run.dump)?);
+    let read = dump_in(alloc, &mut reader, run);
+    end_reading(files, reader, read)
+}
+
+// Reads what is audited to the end of the reader.
+fn dump_in<S: Read>(
+    alloc: Global,
+    r: &mut Counted<S>,
+    run: &AuditRun,
+) -> Result<Dump<'static>, CommandRefusal>
+    requires read { failures_of r.old < 2 ^ 64 - 1 }
+    ensures dump { IfOk result (λ dump. IsDumpIn (audit_of run.now) (λ other. other ≡ dump) (S.remaining (inner_of r.old))) }
+    ensures cause { IfErr result (λ refusal. RefusesDump (audit_of run.now) refusal (S.remaining (inner_of r.old))) }
+    ensures reads { CountsRead (failures_of r.old) (failures_of r.new) result }
+{
     comp_dump::dump_is_read_again();
     if run.words {
-        Ok(read_words(alloc, &mut reader, run.large)?)
+        Ok(read_words(alloc, r, run.large)?)
     } else if run.large {
-        Ok(read_large_dump(alloc, &mut reader)?)
+        Ok(read_large_dump(alloc, r)?)
     } else {
-        Ok(read_dump(alloc, &mut reader)?)
+        Ok(read_dump(alloc, r)?)
     }
 }

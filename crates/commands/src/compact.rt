@@ -7,7 +7,7 @@ ghost use Rattle.comp_mutator.specs.CellViews.{steps_of, AreNew};
 ghost use Rattle.comp_mutator.specs.Finishes.{IsOfFlip};
 ghost use Rattle.comp_mutator.specs.Mutators.{cells_of, pass_of, setup_of, AreMutatorsOf};
 ghost use Rattle.commands.specs.Compact.{Compacts, IsOfSweeping, IsSweptHeap, RefusesCompact, RefusesSweep};
-ghost use Rattle.command_io.specs.Dumps.{RefusedUncreated};
+ghost use Rattle.command_io.specs.Disk.{LeavesRead, RefusedUnmade};
 ghost use Rattle.command_io.specs.Images.{SomeHeapAt, RefusesAt};
 ghost use Rattle.command_io.specs.Printing.{RefusedUnprinted};
 ghost use Rattle.commands.specs.Leaving.{LeavesOutput};
@@ -45,11 +45,11 @@ pub fn print_compact<R: Threads + Wait + Sync, F: Files, O: Write>(
     requires workers { (1 ≤ workers) × (workers ≤ 64) }
     requires written { failures_of out.old < 2 ^ 64 - 1 }
     ensures compacted { OnOk result (SomeHeapAt (F.disk files.old) large image.now (Compacts (F.disk files.old) dump.now workers files.new (O.contents (inner_of out.old).now) (O.contents (inner_of out.new).now))) }
-    ensures cause { IfErr result (RefusesAt (F.disk files.old) large image.now (RefusesCompact (F.disk files.old) dump.now workers files.new)) }
-    ensures uncreated { RefusedUncreated (F.disk files.old) files.old files.new result }
+    ensures cause { IfErr result (RefusesAt (F.disk files.old) large image.now (RefusesCompact (F.disk files.old) dump.now workers files.new (O.contents (inner_of out.old).now) (O.contents (inner_of out.new).now))) }
+    ensures unmade { RefusedUnmade (F.disk files.old) files.old files.new result }
     ensures output { LeavesOutput RefusedUnprinted O.contents out.old out.new result }
 {
-    let finished = swept_heap(alloc, rt, &*files, image, workers, large)?;
+    let finished = swept_heap(alloc, rt, files, image, workers, large)?;
     let made = Dump::of(alloc, &finished, workers, 0)?;
     write_dump_to(files, dump, &made)?;
     print_line("live ", made.live_words(), out)
@@ -59,15 +59,16 @@ pub fn print_compact<R: Threads + Wait + Sync, F: Files, O: Write>(
 fn swept_heap<R: Threads + Wait + Sync, F: Files>(
     alloc: Global,
     rt: &R,
-    files: &F,
+    files: &mut F,
     path: &str,
     workers: u8,
     large: bool,
 ) -> Result<Finished, CommandRefusal>
     requires workers { (1 ≤ workers) × (workers ≤ 64) }
-    ensures swept { IfOk result (λ f. SomeHeapAt (F.disk files.now) large path.now (IsSweptHeap workers f)) }
+    ensures swept { IfOk result (λ f. SomeHeapAt (F.disk files.old) large path.now (IsSweptHeap workers f)) }
     ensures flipped { IfOk result (IsOfFlip workers 0) }
-    ensures cause { IfErr result (RefusesAt (F.disk files.now) large path.now RefusesSweep) }
+    ensures cause { IfErr result (RefusesAt (F.disk files.old) large path.now RefusesSweep) }
+    ensures left { LeavesRead (F.disk files.old) files.old files.new result }
 {
     let heap = heap_at(alloc, files, path, large)?;
     let plan = plan_heap(alloc, rt, heap)?;

@@ -2,13 +2,14 @@
 ghost use Rattle.std.specs.Prelude.{◌≡◌, ◌-◌, ◌^◌, ◌<◌, true, IfOk, IfErr, OnOk, Some};
 ghost use Rattle.heap_layout.specs.Counted.{inner_of, failures_of};
 ghost use Rattle.command_line.specs.Runs.{audit_of};
+ghost use Rattle.command_io.specs.Disk.{LeavesRead};
 ghost use Rattle.command_io.specs.declared.refusal.CommandRefusal.TheVariants as refusals;
 ghost use Rattle.commands.specs.Audits.{compared_lines, found_lines, FailsCompared, IsCompared, IsFound, Passes, PrintsCompared, RefusesAudit, RefusesCompared, SomeAudit, LeavesUnexplained};
 ghost use Rattle.commands.specs.Leaving.{LeavesOutput};
 ghost use Rattle.commands.specs.Replays.{StopsUnprinted};
 
-use crate::audit::{dump_at, verdict_by};
-use command_io::{CommandRefusal, Files, flush, heap_at, print_text};
+use crate::audit::{audited_at, verdict_by};
+use command_io::{CommandRefusal, Files, flush, print_text};
 use command_line::AuditRun;
 use comp_audit::{AuditFault, Dump, DumpCounts, Explanation, Verdict, count, explain};
 use heap_layout::{Counted, MarkedHeap, OutOfMemory};
@@ -58,15 +59,16 @@ impl Display for Compared {
 pub(crate) fn print_explained<F: Files, O: Write>(
     alloc: Global,
     rt: &(impl Threads + Sync),
-    files: &F,
+    files: &mut F,
     run: &AuditRun,
     out: &mut Counted<&mut O>,
 ) -> Result<(), CommandRefusal>
     requires explained { run.now.explain ≡ true }
     requires written { failures_of out.old < 2 ^ 64 - 1 }
-    ensures passed { OnOk result (SomeAudit (F.disk files.now) (audit_of run.now) (Passes (audit_of run.now) (O.contents (inner_of out.old).now) (O.contents (inner_of out.new).now))) }
-    ensures cause { IfErr result (RefusesAudit (F.disk files.now) (audit_of run.now)) }
-    ensures output { LeavesOutput (LeavesUnexplained (F.disk files.now) (audit_of run.now)) O.contents out.old out.new result }
+    ensures passed { OnOk result (SomeAudit (F.disk files.old) (audit_of run.now) (Passes (audit_of run.now) (O.contents (inner_of out.old).now) (O.contents (inner_of out.new).now))) }
+    ensures cause { IfErr result (RefusesAudit (F.disk files.old) (audit_of run.now) (O.contents (inner_of out.old).now) (O.contents (inner_of out.new).now)) }
+    ensures output { LeavesOutput (LeavesUnexplained (F.disk files.old) (audit_of run.now)) O.contents out.old out.new result }
+    ensures left { LeavesRead (F.disk files.old) files.old files.new result }
 {
     let compared = compared_at(alloc, rt, files, run)?;
     print_compared(alloc, &compared, out)
@@ -76,15 +78,15 @@ pub(crate) fn print_explained<F: Files, O: Write>(
 fn compared_at<F: Files>(
     alloc: Global,
     rt: &(impl Threads + Sync),
-    files: &F,
+    files: &mut F,
     run: &AuditRun,
 ) -> Result<Compared, CommandRefusal>
-    ensures compared { IfOk result (λ compared. SomeAudit (F.disk files.now) (audit_of run.now) (IsCompared run.now.whole compared)) }
-    ensures cause { IfErr result (FailsCompared (F.disk files.now) (audit_of run.now)) }
+    ensures compared { IfOk result (λ compared. SomeAudit (F.disk files.old) (audit_of run.now) (IsCompared run.now.whole compared)) }
+    ensures cause { IfErr result (FailsCompared (F.disk files.old) (audit_of run.now)) }
+    ensures left { LeavesRead (F.disk files.old) files.old files.new result }
 {
-    let heap = heap_at(alloc, files, run.image, run.large)?;
-    let dump = dump_at(alloc, files, run)?;
-    compare(alloc, rt, heap, &dump, run.whole)
+    let audited = audited_at(alloc, files, run)?;
+    compare(alloc, rt, audited.heap, &audited.dump, run.whole)
 }
 
 // How much a dump has, and what its audit finds. It fails only if memory runs out.

@@ -4,14 +4,14 @@ ghost use Rattle.heap_layout.specs.Counted.{inner_of, failures_of};
 ghost use Rattle.comp_audit.specs.Judged.{faults, Judges};
 ghost use Rattle.command_line.specs.Maps.{map_of};
 ghost use Rattle.command_line.specs.Runs.{audit_of};
-ghost use Rattle.command_io.specs.NewImages.{RefusedUnmade};
+ghost use Rattle.command_io.specs.Disk.{LeavesRead, RefusedUnmade};
 ghost use Rattle.command_io.specs.Printing.{RefusedUnprinted};
 ghost use Rattle.command_io.specs.declared.refusal.CommandRefusal.TheVariants as refusals;
 ghost use Rattle.commands.specs.Audits.{FailsCompared, SomeAudit};
 ghost use Rattle.commands.specs.Mapping.{audit_for, verdict_of, FailsMap, IsOfWritingMap, Maps, RefusesMap, SomeMap};
 ghost use Rattle.commands.specs.Leaving.{LeavesOutput};
 
-use crate::audit::dump_at;
+use crate::audit::audited_at;
 use command_io::{CommandRefusal, Files, heap_at, print_line, write_map_to};
 use command_line::{AuditRun, MapRun};
 use comp_audit::{AuditFault, Dump, Verdict, audit, explain};
@@ -71,11 +71,11 @@ pub fn print_map<F: Files, O: Write>(
 ) -> Result<(), CommandRefusal>
     requires { failures_of out.old < 2 ^ 64 - 1 }
     ensures mapped { OnOk result (SomeMap (F.disk files.old) (map_of run.entry) (Maps (F.disk files.old) run.entry.out.now files.new (O.contents (inner_of out.old).now) (O.contents (inner_of out.new).now))) }
-    ensures cause { IfErr result (RefusesMap (F.disk files.old) (map_of run.entry) files.old files.new) }
+    ensures cause { IfErr result (RefusesMap (F.disk files.old) (map_of run.entry) files.old files.new (O.contents (inner_of out.old).now) (O.contents (inner_of out.new).now)) }
     ensures unmade { RefusedUnmade (F.disk files.old) files.old files.new result }
     ensures output { LeavesOutput RefusedUnprinted O.contents out.old out.new result }
 {
-    let drawn = drawn_at(alloc, rt, &*files, &run)?;
+    let drawn = drawn_at(alloc, rt, files, &run)?;
     write_drawn(alloc, files, run.out, &drawn, out)
 }
 
@@ -83,11 +83,12 @@ pub fn print_map<F: Files, O: Write>(
 fn drawn_at<F: Files>(
     alloc: Global,
     rt: &(impl Threads + Sync),
-    files: &F,
+    files: &mut F,
     run: &MapRun,
 ) -> Result<Drawn, CommandRefusal>
-    ensures drawn { IfOk result (λ drawn. SomeMap (F.disk files.now) (map_of run.now) (λ heap. heap ≡ drawn.plan)) }
-    ensures cause { IfErr result (FailsMap (F.disk files.now) (map_of run.now)) }
+    ensures drawn { IfOk result (λ drawn. SomeMap (F.disk files.old) (map_of run.now) (λ heap. heap ≡ drawn.plan)) }
+    ensures cause { IfErr result (FailsMap (F.disk files.old) (map_of run.now)) }
+    ensures left { LeavesRead (F.disk files.old) files.old files.new result }
 {
     match run.dump {
         Some(path) => dumped_at(alloc, rt, files, &audit_for(run, path)),
@@ -117,15 +118,15 @@ fn audit_for<'a>(run: &MapRun<'a>, path: &'a str) -> AuditRun<'a>
 fn dumped_at<F: Files>(
     alloc: Global,
     rt: &(impl Threads + Sync),
-    files: &F,
+    files: &mut F,
     run: &AuditRun,
 ) -> Result<Drawn, CommandRefusal>
-    ensures drawn { IfOk result (λ drawn. SomeAudit (F.disk files.now) (audit_of run.now) (λ heap _. heap ≡ drawn.plan)) }
-    ensures cause { IfErr result (FailsCompared (F.disk files.now) (audit_of run.now)) }
+    ensures drawn { IfOk result (λ drawn. SomeAudit (F.disk files.old) (audit_of run.now) (λ heap _. heap ≡ drawn.plan)) }
+    ensures cause { IfErr result (FailsCompared (F.disk files.old) (audit_of run.now)) }
+    ensures left { LeavesRead (F.disk files.old) files.old files.new result }
 {
-    let heap = heap_at(alloc, files, run.image, run.large)?;
-    let dump = dump_at(alloc, files, run)?;
-    plan_with(alloc, rt, heap, dump)
+    let audited = audited_at(alloc, files, run)?;
+    plan_with(alloc, rt, audited.heap, audited.dump)
 }
 
 // The plan of a heap, with a dump and what its audit finds. It fails only if memory runs out.
@@ -178,7 +179,7 @@ fn write_drawn<F: Files, O: Write>(
 ) -> Result<(), CommandRefusal>
     requires { failures_of out.old < 2 ^ 64 - 1 }
     ensures mapped { OnOk result (Maps (F.disk files.old) path.now files.new (O.contents (inner_of out.old).now) (O.contents (inner_of out.new).now) drawn.now.plan) }
-    ensures cause { IfErr result (IsOfWritingMap (F.disk files.old) path.now files.new) }
+    ensures cause { IfErr result (IsOfWritingMap (F.disk files.old) path.now files.new (O.contents (inner_of out.old).now) (O.contents (inner_of out.new).now) drawn.now.plan) }
     ensures unmade { RefusedUnmade (F.disk files.old) files.old files.new result }
     ensures output { LeavesOutput RefusedUnprinted O.contents out.old out.new result }
 {

@@ -3,12 +3,11 @@ ghost use Rattle.std.specs.Prelude.{◌≡◌, ◌-◌, ◌^◌, ◌<◌, IfErr,
 ghost use Rattle.heap_layout.specs.Counted.{inner_of, failures_of};
 ghost use Rattle.heap_layout.specs.Encoding.{encoding};
 ghost use Rattle.heap_layout.specs.ImageParts.{heap_in};
-ghost use Rattle.command_io.specs.Disk.{WritesWhole};
+ghost use Rattle.command_io.specs.Disk.{LeavesRead, RefusedUnmade, WritesWhole};
 ghost use Rattle.command_io.specs.ImageParts.{SomePartsAt};
-ghost use Rattle.command_io.specs.NewImages.{RefusedUnmade};
 ghost use Rattle.command_io.specs.Printing.{RefusedUnprinted};
 ghost use Rattle.command_io.specs.declared.refusal.Output.TheVariants as outputs;
-ghost use Rattle.commands.specs.Compact.{PrintsLive};
+ghost use Rattle.commands.specs.Compact.{live_line, PrintsLive};
 ghost use Rattle.commands.specs.Marking.{IsMarkedHeap, IsUnmarkable, Marks, RefusesMark, RefusesMarking};
 ghost use Rattle.commands.specs.Nexts.{IsOfWritingNext};
 ghost use Rattle.commands.specs.Leaving.{LeavesOutput};
@@ -38,23 +37,24 @@ pub fn print_mark<F: Files, O: Write>(
 ) -> Result<(), CommandRefusal>
     requires { failures_of out.old < 2 ^ 64 - 1 }
     ensures marked { OnOk result (SomePartsAt (F.disk files.old) large image.now (Marks (F.disk files.old) new.now files.new (O.contents (inner_of out.old).now) (O.contents (inner_of out.new).now))) }
-    ensures cause { IfErr result (RefusesMark (F.disk files.old) large image.now new.now files.old files.new) }
+    ensures cause { IfErr result (RefusesMark (F.disk files.old) large image.now new.now files.old files.new (O.contents (inner_of out.old).now) (O.contents (inner_of out.new).now)) }
     ensures unmade { RefusedUnmade (F.disk files.old) files.old files.new result }
     ensures output { LeavesOutput RefusedUnprinted O.contents out.old out.new result }
 {
-    let heap = marked_heap(alloc, &*files, image, large)?;
+    let heap = marked_heap(alloc, files, image, large)?;
     write_marked(files, new, &heap, out)
 }
 
 // The heap whose parts the image at a path has, marked by its roots.
 fn marked_heap<F: Files>(
     alloc: Global,
-    files: &F,
+    files: &mut F,
     path: &str,
     large: bool,
 ) -> Result<MarkedHeap, CommandRefusal>
-    ensures marked { IfOk result (λ heap. SomePartsAt (F.disk files.now) large path.now (λ parts. IsMarkedHeap parts heap)) }
-    ensures cause { IfErr result (RefusesMarking (F.disk files.now) large path.now) }
+    ensures marked { IfOk result (λ heap. SomePartsAt (F.disk files.old) large path.now (λ parts. IsMarkedHeap parts heap)) }
+    ensures cause { IfErr result (RefusesMarking (F.disk files.old) large path.now) }
+    ensures left { LeavesRead (F.disk files.old) files.old files.new result }
 {
     let parts = parts_at(alloc, files, path, large)?;
     mark_by_roots(alloc, parts)
@@ -81,7 +81,7 @@ fn write_marked<F: Files, O: Write>(
     requires { failures_of out.old < 2 ^ 64 - 1 }
     ensures written { OnOk result (WritesWhole (F.disk files.old) outputs.New path.now (encoding heap.now) files.new) }
     ensures printed { OnOk result (PrintsLive (O.contents (inner_of out.old).now) (O.contents (inner_of out.new).now) heap.now) }
-    ensures cause { IfErr result (IsOfWritingNext (F.disk files.old) path.now (encoding heap.now) files.new) }
+    ensures cause { IfErr result (IsOfWritingNext (F.disk files.old) path.now (encoding heap.now) files.new (O.contents (inner_of out.old).now) (O.contents (inner_of out.new).now) (live_line heap.now)) }
     ensures unmade { RefusedUnmade (F.disk files.old) files.old files.new result }
     ensures output { LeavesOutput RefusedUnprinted O.contents out.old out.new result }
 {

@@ -1,14 +1,13 @@
 //! The command `next`.
-ghost use Rattle.std.specs.Prelude.{◌≡◌, ◌-◌, ◌^◌, ◌<◌, ◌≤◌, IfErr, IfOk, OnOk};
+ghost use Rattle.std.specs.Prelude.{◌≡◌, ◌-◌, ◌^◌, ◌<◌, ◌≤◌, false, IfErr, IfOk, OnOk};
 ghost use Rattle.heap_layout.specs.Counted.{inner_of, failures_of};
 ghost use Rattle.heap_layout.specs.Encoding.{encoding};
 ghost use Rattle.heap_layout.specs.Heap.{live};
 ghost use Rattle.page_plan.specs.Sliding.{live_words};
-ghost use Rattle.command_io.specs.Disk.{WritesWhole};
-ghost use Rattle.command_io.specs.NewImages.{RefusedUnmade};
+ghost use Rattle.command_io.specs.Disk.{names_failure, LeavesRead, RefusedUnmade, WritesWhole};
 ghost use Rattle.command_io.specs.declared.refusal.Output.TheVariants as outputs;
 ghost use Rattle.commands.specs.Outcomes.{IsHaltedBy};
-ghost use Rattle.commands.specs.Replays.{PrintsRun, StopsUnprinted};
+ghost use Rattle.commands.specs.Replays.{run_lines, PrintsRun, StopsUnprinted};
 ghost use Rattle.commands.specs.Nexts.{IsGivenAt, IsOfWritingNext, IsWrittenNext, MakesNext, RefusesGivenAt, RefusesNext, RefusesWriting};
 ghost use Rattle.commands.specs.Cycled.{given_by, refusal_by, shown_by, IsGivenWithin};
 ghost use Rattle.commands.specs.Leaving.{LeavesOutput};
@@ -54,13 +53,13 @@ pub fn print_next<F: Files, O: Write>(
 {
     let inputs = inputs_at(
         alloc,
-        &*files,
+        files,
         asked.image,
         asked.trace,
         asked.mutators,
         asked.large,
     )?;
-    let handed = handed_at(alloc, &*files, &asked.marks, asked.mutators)?;
+    let handed = handed_at(alloc, files, &asked.marks, asked.mutators)?;
     let made = cycle_heap(
         alloc,
         rt,
@@ -76,13 +75,14 @@ pub fn print_next<F: Files, O: Write>(
 // What is handed in for the next heap: the marks or the roots at the path that is asked for, or neither.
 fn handed_at<F: Files>(
     alloc: Global,
-    files: &F,
+    files: &mut F,
     asked: &NextMarks<'_>,
     mutators: u8,
 ) -> Result<Handed, CommandRefusal>
-    ensures given { IfOk result (λ handed. IsGivenAt (F.disk files.now) mutators asked.now (given_by handed)) }
+    ensures given { IfOk result (λ handed. IsGivenAt (F.disk files.old) mutators asked.now (given_by handed)) }
     ensures within { IfOk result (λ handed. IsGivenWithin mutators (given_by handed)) }
-    ensures cause { IfErr result (RefusesGivenAt (F.disk files.now) mutators asked.now) }
+    ensures cause { IfErr result (RefusesGivenAt (F.disk files.old) mutators asked.now) }
+    ensures left { LeavesRead (F.disk files.old) files.old files.new result }
 {
     match asked {
         NextMarks::Given(path) => match marks_at(alloc, files, path) {
@@ -105,6 +105,7 @@ fn write_made<F: Files, O: Write>(
     out: &mut Counted<&mut O>,
 ) -> Result<(), CommandRefusal>
     requires halted { IfErr made (λ left. IsHaltedBy (shown_by left) (refusal_by left)) }
+    requires unnamed { IfErr made (λ left. names_failure (refusal_by left) ≡ false) }
     requires written { failures_of out.old < 2 ^ 64 - 1 }
     ensures done { OnOk result (IsWrittenNext (F.disk files.old) path.now files.new (O.contents (inner_of out.old).now) (O.contents (inner_of out.new).now) made) }
     ensures cause { IfErr result (RefusesWriting (F.disk files.old) path.now files.old files.new (O.contents (inner_of out.old).now) (O.contents (inner_of out.new).now) made) }
@@ -130,7 +131,7 @@ fn write_cycled<F: Files, O: Write>(
     requires written { failures_of out.old < 2 ^ 64 - 1 }
     ensures written { OnOk result (WritesWhole (F.disk files.old) outputs.New path.now (encoding cycled.now.heap) files.new) }
     ensures printed { OnOk result (PrintsRun (O.contents (inner_of out.old).now) (O.contents (inner_of out.new).now) cycled.now.shown.items (live_words (live cycled.now.heap))) }
-    ensures cause { IfErr result (IsOfWritingNext (F.disk files.old) path.now (encoding cycled.now.heap) files.new) }
+    ensures cause { IfErr result (IsOfWritingNext (F.disk files.old) path.now (encoding cycled.now.heap) files.new (O.contents (inner_of out.old).now) (O.contents (inner_of out.new).now) (run_lines cycled.now.shown.items (live_words (live cycled.now.heap)))) }
     ensures unmade { RefusedUnmade (F.disk files.old) files.old files.new result }
     ensures output { LeavesOutput StopsUnprinted O.contents out.old out.new result }
 {

@@ -3,6 +3,8 @@ ghost use Rattle.std.specs.Prelude.{◌≡◌, ◌-◌, ◌^◌, ◌<◌, IfErr,
 ghost use Rattle.std.specs.Io.KnownBytes.{Appends};
 ghost use Rattle.heap_layout.specs.Counted.{inner_of, failures_of};
 ghost use Rattle.heap_layout.specs.Heap.{live};
+ghost use Rattle.heap_layout.specs.Writing.{AppendsSome};
+ghost use Rattle.command_io.specs.Disk.{LeavesRead};
 ghost use Rattle.command_io.specs.Printing.{RefusedUnprinted};
 ghost use Rattle.commands.specs.Plan.{plan_text, count_lines, page_lines, root_lines, IsOfPrinting, PrintsPlan, RefusesPlan};
 ghost use Rattle.command_io.specs.Images.{SomeHeapAt, RefusesAt};
@@ -21,15 +23,16 @@ use std::thread::Threads;
 pub fn print_plan<F: Files, O: Write>(
     alloc: Global,
     rt: &(impl Threads + Sync),
-    files: &F,
+    files: &mut F,
     path: &str,
     large: bool,
     out: &mut Counted<&mut O>,
 ) -> Result<(), CommandRefusal>
     requires { failures_of out.old < 2 ^ 64 - 1 }
-    ensures printed { OnOk result (SomeHeapAt (F.disk files.now) large path.now (PrintsPlan (O.contents (inner_of out.old).now) (O.contents (inner_of out.new).now))) }
-    ensures cause { IfErr result (RefusesAt (F.disk files.now) large path.now RefusesPlan) }
+    ensures printed { OnOk result (SomeHeapAt (F.disk files.old) large path.now (PrintsPlan (O.contents (inner_of out.old).now) (O.contents (inner_of out.new).now))) }
+    ensures cause { IfErr result (RefusesAt (F.disk files.old) large path.now (RefusesPlan (O.contents (inner_of out.old).now) (O.contents (inner_of out.new).now))) }
     ensures output { LeavesOutput RefusedUnprinted O.contents out.old out.new result }
+    ensures left { LeavesRead (F.disk files.old) files.old files.new result }
 {
     let heap = heap_at(alloc, files, path, large)?;
     let plan = Plan::new(alloc, rt, heap)?;
@@ -44,7 +47,7 @@ fn write_plan<O: Write>(
 ) -> Result<(), CommandRefusal>
     requires { failures_of out.old < 2 ^ 64 - 1 }
     ensures printed { OnOk result (Appends (O.contents (inner_of out.old).now) (O.contents (inner_of out.new).now) (plan_text plan.now)) }
-    ensures cause { IfErr result IsOfPrinting }
+    ensures cause { IfErr result (IsOfPrinting (O.contents (inner_of out.old).now) (O.contents (inner_of out.new).now) plan.now) }
     ensures output { LeavesOutput RefusedUnprinted O.contents out.old out.new result }
 {
     let roots = plan.forward_roots(alloc)?;
@@ -57,6 +60,7 @@ fn write_plan<O: Write>(
 fn write_counts<O: Write>(plan: &Plan, out: &mut Counted<&mut O>) -> Result<(), CommandRefusal>
     requires { failures_of out.old < 2 ^ 64 - 1 }
     ensures printed { OnOk result (Appends (O.contents (inner_of out.old).now) (O.contents (inner_of out.new).now) (count_lines (live plan.now))) }
+    ensures begun { OnErr result (AppendsSome (O.contents (inner_of out.old).now) (O.contents (inner_of out.new).now) (count_lines (live plan.now))) }
     ensures cause { OnErr result (result ≡ Err CommandRefusal.CannotPrint) }
     ensures output { LeavesOutput RefusedUnprinted O.contents out.old out.new result }
 {
@@ -68,6 +72,7 @@ fn write_counts<O: Write>(plan: &Plan, out: &mut Counted<&mut O>) -> Result<(), 
 fn write_pages<O: Write>(plan: &Plan, out: &mut Counted<&mut O>) -> Result<(), CommandRefusal>
     requires { failures_of out.old < 2 ^ 64 - 1 }
     ensures printed { OnOk result (Appends (O.contents (inner_of out.old).now) (O.contents (inner_of out.new).now) (page_lines (live plan.now))) }
+    ensures begun { OnErr result (AppendsSome (O.contents (inner_of out.old).now) (O.contents (inner_of out.new).now) (page_lines (live plan.now))) }
     ensures cause { OnErr result (result ≡ Err CommandRefusal.CannotPrint) }
     ensures output { LeavesOutput RefusedUnprinted O.contents out.old out.new result }
 {
@@ -82,6 +87,7 @@ fn write_pages<O: Write>(plan: &Plan, out: &mut Counted<&mut O>) -> Result<(), C
 fn write_roots<O: Write>(roots: &[u64], out: &mut Counted<&mut O>) -> Result<(), CommandRefusal>
     requires { failures_of out.old < 2 ^ 64 - 1 }
     ensures printed { OnOk result (Appends (O.contents (inner_of out.old).now) (O.contents (inner_of out.new).now) (root_lines roots.now)) }
+    ensures begun { OnErr result (AppendsSome (O.contents (inner_of out.old).now) (O.contents (inner_of out.new).now) (root_lines roots.now)) }
     ensures cause { OnErr result (result ≡ Err CommandRefusal.CannotPrint) }
     ensures output { LeavesOutput RefusedUnprinted O.contents out.old out.new result }
 {

@@ -1,7 +1,7 @@
 //! The command `race`.
 ghost use Rattle.std.specs.Prelude.{◌≡◌, ◌-◌, ◌^◌, ◌<◌, ◌≤◌, IfErr, OnOk};
 ghost use Rattle.heap_layout.specs.Counted.{inner_of, failures_of};
-ghost use Rattle.command_io.specs.Dumps.{RefusedUncreated};
+ghost use Rattle.command_io.specs.Disk.{RefusedUnmade};
 ghost use Rattle.commands.specs.Races.{Races, RefusesRace};
 ghost use Rattle.commands.specs.Replays.{SomeRun, StopsUnprinted};
 ghost use Rattle.commands.specs.Leaving.{LeavesOutput};
@@ -35,12 +35,12 @@ pub fn print_race<R: Threads + Wait + Sync, F: Files, O: Write>(
     requires written { failures_of out.old < 2 ^ 64 - 1 }
     ensures raced { OnOk result (SomeRun (F.disk files.old) asked.entry (Races (F.disk files.old) asked.entry files.new (O.contents (inner_of out.old).now) (O.contents (inner_of out.new).now))) }
     ensures cause { IfErr result (RefusesRace (F.disk files.old) asked.entry files.old files.new (O.contents (inner_of out.old).now) (O.contents (inner_of out.new).now)) }
-    ensures uncreated { RefusedUncreated (F.disk files.old) files.old files.new result }
+    ensures unmade { RefusedUnmade (F.disk files.old) files.old files.new result }
     ensures output { LeavesOutput StopsUnprinted O.contents out.old out.new result }
 {
     let inputs = inputs_at(
         alloc,
-        &*files,
+        files,
         asked.image,
         asked.trace,
         asked.mutators,

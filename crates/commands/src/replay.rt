@@ -3,14 +3,13 @@ ghost use Rattle.std.specs.Prelude.{◌≡◌, ◌-◌, ◌^◌, ◌<◌, ◌≤
 ghost use Rattle.heap_layout.specs.Counted.{inner_of, failures_of};
 ghost use Rattle.comp_mutator.specs.Finishes.{live_of, IsOfFlip};
 ghost use Rattle.comp_dump.specs.DumpEncoding.{dump_bytes};
-ghost use Rattle.command_io.specs.Disk.{WritesWhole};
-ghost use Rattle.command_io.specs.Dumps.{RefusedUncreated};
+ghost use Rattle.command_io.specs.Disk.{LeavesRead, RefusedUnmade, WritesWhole};
 ghost use Rattle.command_io.specs.Images.{IsHeapAt};
 ghost use Rattle.command_io.specs.Texts.{HasLinesAt};
 ghost use Rattle.command_io.specs.declared.refusal.Output.TheVariants as outputs;
 ghost use Rattle.comp_trace.specs.Traces.{lines_of, mutators_of, roots_of};
 ghost use Rattle.commands.specs.Outcomes.{printed_of, refusal_of, IsHaltedBy, IsOfHalt, IsWritten, RefusesInputs, RefusesOutcome};
-ghost use Rattle.commands.specs.Replays.{dumped_of, IsOfWritingRun, PrintsRun, RefusesReplay, Replays, SomeRun, StopsUnprinted};
+ghost use Rattle.commands.specs.Replays.{dumped_of, run_lines, IsOfWritingRun, PrintsRun, RefusesReplay, Replays, SomeRun, StopsUnprinted};
 ghost use Rattle.commands.specs.Leaving.{LeavesOutput};
 
 use crate::replays::{Replayed, printed, replay_heap};
@@ -41,12 +40,12 @@ pub fn print_replay<F: Files, O: Write>(
     requires written { failures_of out.old < 2 ^ 64 - 1 }
     ensures replayed { OnOk result (SomeRun (F.disk files.old) asked.entry (Replays (F.disk files.old) asked.entry files.new (O.contents (inner_of out.old).now) (O.contents (inner_of out.new).now))) }
     ensures cause { IfErr result (RefusesReplay (F.disk files.old) asked.entry files.old files.new (O.contents (inner_of out.old).now) (O.contents (inner_of out.new).now)) }
-    ensures uncreated { RefusedUncreated (F.disk files.old) files.old files.new result }
+    ensures unmade { RefusedUnmade (F.disk files.old) files.old files.new result }
     ensures output { LeavesOutput StopsUnprinted O.contents out.old out.new result }
 {
     let inputs = inputs_at(
         alloc,
-        &*files,
+        files,
         asked.image,
         asked.trace,
         asked.mutators,
@@ -74,16 +73,17 @@ pub struct Inputs {
 /// another path.
 pub fn inputs_at<F: Files>(
     alloc: Global,
-    files: &F,
+    files: &mut F,
     image: &str,
     trace: &str,
     mutators: u8,
     large: bool,
 ) -> Result<Inputs, CommandRefusal>
-    ensures heap { IfOk result (λ inputs. IsHeapAt (F.disk files.now) large image.now inputs.heap) }
-    ensures lines { IfOk result (λ inputs. HasLinesAt (F.disk files.now) trace.now mutators (length inputs.heap.roots) (lines_of inputs.trace)) }
+    ensures heap { IfOk result (λ inputs. IsHeapAt (F.disk files.old) large image.now inputs.heap) }
+    ensures lines { IfOk result (λ inputs. HasLinesAt (F.disk files.old) trace.now mutators (length inputs.heap.roots) (lines_of inputs.trace)) }
     ensures counts { IfOk result (λ inputs. (mutators_of inputs.trace ≡ mutators) × (roots_of inputs.trace ≡ length inputs.heap.roots)) }
-    ensures cause { IfErr result (RefusesInputs (F.disk files.now) large image.now trace.now mutators) }
+    ensures cause { IfErr result (RefusesInputs (F.disk files.old) large image.now trace.now mutators) }
+    ensures left { LeavesRead (F.disk files.old) files.old files.new result }
 {
     let heap = heap_at(alloc, files, image, large)?;
     let roots = heap.roots().len() as u32;
@@ -104,7 +104,7 @@ pub(crate) fn write_outcome<F: Files, O: Write>(
     requires written { failures_of out.old < 2 ^ 64 - 1 }
     ensures done { OnOk result (IsWritten (F.disk files.old) asked.entry files.new (O.contents (inner_of out.old).now) (O.contents (inner_of out.new).now) outcome) }
     ensures cause { IfErr result (RefusesOutcome (F.disk files.old) asked.entry files.old files.new (O.contents (inner_of out.old).now) (O.contents (inner_of out.new).now) outcome) }
-    ensures uncreated { RefusedUncreated (F.disk files.old) files.old files.new result }
+    ensures unmade { RefusedUnmade (F.disk files.old) files.old files.new result }
     ensures output { LeavesOutput StopsUnprinted O.contents out.old out.new result }
 {
     match outcome {
@@ -144,8 +144,8 @@ fn write_run<F: Files, O: Write>(
     requires written { failures_of out.old < 2 ^ 64 - 1 }
     ensures written { OnOk result (WritesWhole (F.disk files.old) outputs.Dump asked.entry.dump.now (dump_bytes (dumped_of asked.entry.mutators asked.entry.fresh run.now.finished)) files.new) }
     ensures printed { OnOk result (PrintsRun (O.contents (inner_of out.old).now) (O.contents (inner_of out.new).now) run.now.shown.items (live_of run.now.finished)) }
-    ensures cause { IfErr result (IsOfWritingRun (F.disk files.old) asked.entry.dump.now (dump_bytes (dumped_of asked.entry.mutators asked.entry.fresh run.now.finished)) files.new) }
-    ensures uncreated { RefusedUncreated (F.disk files.old) files.old files.new result }
+    ensures cause { IfErr result (IsOfWritingRun (F.disk files.old) asked.entry.dump.now (dump_bytes (dumped_of asked.entry.mutators asked.entry.fresh run.now.finished)) files.new (O.contents (inner_of out.old).now) (O.contents (inner_of out.new).now) (run_lines run.now.shown.items (live_of run.now.finished))) }
+    ensures unmade { RefusedUnmade (F.disk files.old) files.old files.new result }
     ensures output { LeavesOutput StopsUnprinted O.contents out.old out.new result }
 {
     let dump = Dump::of(alloc, &run.finished, asked.mutators, asked.fresh)?;

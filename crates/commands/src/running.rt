@@ -5,11 +5,11 @@ ghost use Rattle.clap.specs.Words.{kind_of};
 ghost use Rattle.clap.specs.declared.error.kind.ErrorKind.TheVariants as kind;
 ghost use Rattle.heap_layout.specs.Counted.{inner_of, failures_of, is_flushed_of, writer_of};
 ghost use Rattle.command_line.specs.Asked.{AsksNoCommand, HasLawfulCounts};
-ghost use Rattle.command_io.specs.NewImages.{RefusedUnmade};
+ghost use Rattle.command_io.specs.Disk.{RefusedUnmade};
 ghost use Rattle.command_io.specs.declared.refusal.CommandRefusal.TheVariants.{OutOfMemory};
 ghost use Rattle.commands.specs.Replays.{StopsUnprinted};
 ghost use Rattle.commands.specs.Tasks.{DoesTask, HasAnswered, RefusesTask};
-ghost use Rattle.commands.specs.Answers.{status_of, DoesAsked, IsUnanswered};
+ghost use Rattle.commands.specs.Answers.{status_of, DoesAsked, IsUnanswered, LeavesSent};
 ghost use Rattle.commands.specs.declared.running.Unanswered.TheVariants.{Misused, Refused};
 ghost use Rattle.commands.specs.Leaving.{LeavesOutput};
 
@@ -58,7 +58,7 @@ pub fn run<R: rt::Files + AllocGlobal + Threads + Wait + Sync, O: Write, E: Writ
     ensures misused { result ≡ 2 → Keeps (O.contents out.old) (O.contents out.new) }
 {
     let mut out = Counted::new(out);
-    let answered = answer(rt.alloc(), rt, &mut RuntimeFiles { rt }, &words, &mut out);
+    let answered = answer(rt.alloc(), rt, &mut RuntimeFiles::new(rt), &words, &mut out);
     respond(answered, err)
 }
 
@@ -86,6 +86,7 @@ pub fn answer<R: Threads + Wait + Sync, F: Files, O: Write>(
     ensures flushed { OnOk result (is_flushed_of out.new ≡ true) }
     ensures counts { OnOk result (failures_of out.new ≡ failures_of out.old) }
     ensures cause { IfErr result (IsUnanswered (F.disk files.old) files.old files.new (failures_of out.old) (failures_of out.new) (O.contents (inner_of out.old).now) (O.contents (inner_of out.new).now) (map string_bytes words.now)) }
+    ensures sent { IfErr result (LeavesSent (is_flushed_of out.old) (is_flushed_of out.new)) }
     ensures same_writer { writer_of out.new ≡ writer_of out.old }
 {
     match read_task(alloc, words) {
@@ -137,7 +138,7 @@ fn perform<R: Threads + Wait + Sync, F: Files, O: Write>(
     ensures cause { IfErr result (RefusesTask (F.disk files.old) files.old files.new (O.contents (inner_of out.old).now) (O.contents (inner_of out.new).now) task.entry) }
     ensures flushed { OnOk result (is_flushed_of out.new ≡ true) }
     ensures output { LeavesOutput StopsUnprinted O.contents out.old out.new result }
-    ensures uncreated { RefusedUnmade (F.disk files.old) files.old files.new result }
+    ensures unmade { RefusedUnmade (F.disk files.old) files.old files.new result }
 {
     print_task(alloc, rt, files, task, out)?;
     flush(out)
@@ -156,15 +157,15 @@ fn print_task<R: Threads + Wait + Sync, F: Files, O: Write>(
     ensures done { OnOk result (DoesTask (F.disk files.old) files.new (O.contents (inner_of out.old).now) (O.contents (inner_of out.new).now) task.entry) }
     ensures cause { IfErr result (RefusesTask (F.disk files.old) files.old files.new (O.contents (inner_of out.old).now) (O.contents (inner_of out.new).now) task.entry) }
     ensures output { LeavesOutput StopsUnprinted O.contents out.old out.new result }
-    ensures uncreated { RefusedUnmade (F.disk files.old) files.old files.new result }
+    ensures unmade { RefusedUnmade (F.disk files.old) files.old files.new result }
 {
     match task {
-        Task::Plan { image, large } => print_plan(alloc, rt, &*files, image, large, out),
+        Task::Plan { image, large } => print_plan(alloc, rt, files, image, large, out),
         Task::Word {
             image,
             index,
             large,
-        } => print_word(alloc, rt, &*files, image, large, index, out),
+        } => print_word(alloc, rt, files, image, large, index, out),
         Task::Replay(run) => print_replay(alloc, rt, files, run, out),
         Task::Race(run) => print_race(alloc, rt, files, run, out),
         Task::Compact {
@@ -173,14 +174,14 @@ fn print_task<R: Threads + Wait + Sync, F: Files, O: Write>(
             workers,
             large,
         } => print_compact(alloc, rt, files, image, dump, workers, large, out),
-        Task::Audit(run) => print_audit(alloc, rt, &*files, run, out),
+        Task::Audit(run) => print_audit(alloc, rt, files, run, out),
         Task::Next(run) => print_next(alloc, rt, files, run, out),
         Task::Mark { image, new, large } => print_mark(alloc, files, image, new, large, out),
         Task::Moved {
             image,
             moved,
             large,
-        } => print_moved(alloc, &*files, image, moved, large, out),
+        } => print_moved(alloc, files, image, moved, large, out),
         Task::Map(run) => print_map(alloc, rt, files, run, out),
         Task::Help { text } => print_help(&text, out),
         Task::Version => print_text(VERSION_LINE, out),

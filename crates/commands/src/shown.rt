@@ -2,7 +2,8 @@
 ghost use Rattle.std.specs.Prelude.{◌≡◌, ◌-◌, ◌^◌, ◌<◌, drop, true, OnOk, OnErr, Err};
 ghost use Rattle.std.specs.Io.KnownBytes.{Appends};
 ghost use Rattle.heap_layout.specs.Counted.{inner_of, failures_of, is_flushed_of};
-ghost use Rattle.commands.specs.Replays.{shown_line, shown_lines, PrintsRun};
+ghost use Rattle.heap_layout.specs.Writing.{AppendsSome};
+ghost use Rattle.commands.specs.Replays.{run_lines, shown_line, shown_lines, PrintsRun};
 ghost use Rattle.commands.specs.Leaving.{LeavesOutput};
 ghost use Rattle.command_io.specs.Printing.{RefusedUnprinted};
 
@@ -24,6 +25,7 @@ pub fn print_run<O: Write>(
 ) -> Result<(), CommandRefusal>
     requires { failures_of out.old < 2 ^ 64 - 1 }
     ensures printed { OnOk result (PrintsRun (O.contents (inner_of out.old).now) (O.contents (inner_of out.new).now) shown.now live) }
+    ensures begun { OnErr result (AppendsSome (O.contents (inner_of out.old).now) (O.contents (inner_of out.new).now) (run_lines shown.now live)) }
     ensures cause { OnErr result (result ≡ Err CommandRefusal.CannotPrint) }
     ensures output { LeavesOutput RefusedUnprinted O.contents out.old out.new result }
 {
@@ -35,6 +37,7 @@ pub fn print_run<O: Write>(
 fn print_shown<O: Write>(shown: &[Shown], out: &mut Counted<&mut O>) -> Result<(), CommandRefusal>
     requires { failures_of out.old < 2 ^ 64 - 1 }
     ensures printed { OnOk result (Appends (O.contents (inner_of out.old).now) (O.contents (inner_of out.new).now) (shown_lines shown.now)) }
+    ensures begun { OnErr result (AppendsSome (O.contents (inner_of out.old).now) (O.contents (inner_of out.new).now) (shown_lines shown.now)) }
     ensures cause { OnErr result (result ≡ Err CommandRefusal.CannotPrint) }
     ensures output { LeavesOutput RefusedUnprinted O.contents out.old out.new result }
 {
@@ -51,6 +54,7 @@ pub fn send_shown<O: Write>(
 ) -> Result<(), CommandRefusal>
     requires { failures_of out.old < 2 ^ 64 - 1 }
     ensures printed { OnOk result (Appends (O.contents (inner_of out.old).now) (O.contents (inner_of out.new).now) (shown_lines shown.now)) }
+    ensures begun { OnErr result (AppendsSome (O.contents (inner_of out.old).now) (O.contents (inner_of out.new).now) (shown_lines shown.now)) }
     ensures cause { OnErr result (result ≡ Err CommandRefusal.CannotPrint) }
     ensures output { LeavesOutput RefusedUnprinted O.contents out.old out.new result }
     ensures flushed { OnOk result (is_flushed_of out.new ≡ true) }
@@ -63,6 +67,7 @@ pub fn send_shown<O: Write>(
 fn print_value<O: Write>(shown: Shown, out: &mut Counted<&mut O>) -> Result<(), CommandRefusal>
     requires { failures_of out.old < 2 ^ 64 - 1 }
     ensures printed { OnOk result (Appends (O.contents (inner_of out.old).now) (O.contents (inner_of out.new).now) (shown_line shown)) }
+    ensures begun { OnErr result (AppendsSome (O.contents (inner_of out.old).now) (O.contents (inner_of out.new).now) (shown_line shown)) }
     ensures cause { OnErr result (result ≡ Err CommandRefusal.CannotPrint) }
     ensures output { LeavesOutput RefusedUnprinted O.contents out.old out.new result }
 {

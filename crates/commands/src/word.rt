@@ -1,6 +1,7 @@
 //! The command `word`.
 ghost use Rattle.std.specs.Prelude.{◌≡◌, ◌-◌, ◌^◌, ◌<◌, IfOk, IfErr, OnOk};
 ghost use Rattle.heap_layout.specs.Counted.{inner_of, failures_of};
+ghost use Rattle.command_io.specs.Disk.{LeavesRead};
 ghost use Rattle.command_io.specs.Printing.{RefusedUnprinted};
 ghost use Rattle.command_io.specs.Images.{SomeHeapAt, RefusesAt};
 ghost use Rattle.commands.specs.Word.{IsWordAt, IsPast, PrintsWordAt, RefusesWord, RefusesPrint};
@@ -20,16 +21,17 @@ use std::thread::Threads;
 pub fn print_word<F: Files, O: Write>(
     alloc: Global,
     rt: &(impl Threads + Sync),
-    files: &F,
+    files: &mut F,
     path: &str,
     large: bool,
     index: u64,
     out: &mut Counted<&mut O>,
 ) -> Result<(), CommandRefusal>
     requires { failures_of out.old < 2 ^ 64 - 1 }
-    ensures printed { OnOk result (SomeHeapAt (F.disk files.now) large path.now (PrintsWordAt index (O.contents (inner_of out.old).now) (O.contents (inner_of out.new).now))) }
-    ensures cause { IfErr result (RefusesAt (F.disk files.now) large path.now (RefusesPrint index)) }
+    ensures printed { OnOk result (SomeHeapAt (F.disk files.old) large path.now (PrintsWordAt index (O.contents (inner_of out.old).now) (O.contents (inner_of out.new).now))) }
+    ensures cause { IfErr result (RefusesAt (F.disk files.old) large path.now (RefusesPrint index (O.contents (inner_of out.old).now) (O.contents (inner_of out.new).now))) }
     ensures output { LeavesOutput RefusedUnprinted O.contents out.old out.new result }
+    ensures left { LeavesRead (F.disk files.old) files.old files.new result }
 {
     let word = word_at(alloc, rt, files, path, large, index)?;
     print_line("", word, out)
@@ -39,13 +41,14 @@ pub fn print_word<F: Files, O: Write>(
 fn word_at<F: Files>(
     alloc: Global,
     rt: &(impl Threads + Sync),
-    files: &F,
+    files: &mut F,
     path: &str,
     large: bool,
     index: u64,
 ) -> Result<u64, CommandRefusal>
-    ensures word { IfOk result (λ word. SomeHeapAt (F.disk files.now) large path.now (IsWordAt index word)) }
-    ensures cause { IfErr result (RefusesAt (F.disk files.now) large path.now (RefusesWord index)) }
+    ensures word { IfOk result (λ word. SomeHeapAt (F.disk files.old) large path.now (IsWordAt index word)) }
+    ensures cause { IfErr result (RefusesAt (F.disk files.old) large path.now (RefusesWord index)) }
+    ensures left { LeavesRead (F.disk files.old) files.old files.new result }
 {
     let heap = heap_at(alloc, files, path, large)?;
     let plan = Plan::new(alloc, rt, heap)?;

@@ -210,7 +210,7 @@ fn write<R: rt::Files + AllocGlobal>(
     dump: &Dump<'_>,
     heap: Option<&MarkedHeap>,
 ) -> Result<(), CommandRefusal> {
-    let mut files = RuntimeFiles { rt };
+    let mut files = RuntimeFiles::new(rt);
     match heap {
         Some(heap) => write_image_to(&mut files, PATH, heap),
         None => write_dump_to(&mut files, PATH, dump),
@@ -310,7 +310,7 @@ fn expect_given_up<R: Abort + rt::Files + AllocGlobal>(rt: &R) {
         },
         rt.alloc(),
     );
-    let mut files = RuntimeFiles { rt: &device };
+    let mut files = RuntimeFiles::new(&device);
     let mut file = files.create(Output::Dump, PATH).expect(rt, "a file");
     assert!(rt; file.write(b"whole").is_ok(), "a write");
     assert!(rt; file.flush().is_err(), "a flush");

@@ -1,5 +1,5 @@
 //! One test makes the runs of all tables, since that costs its proof less than a test for each.
-use crate::narrow_outputs::{LINES, REMOVED, WRITTEN, expect_lines};
+use crate::narrow_outputs::{LINES, REFUSED, REMOVED, WRITTEN, expect_lines, expect_refused};
 use crate::taken_steps::take_steps;
 use crate::{
     audit_runs, edition_four_runs, edition_three_runs, edition_two_runs, map_runs, mark_runs,
@@ -68,5 +68,6 @@ fn take_tables<R: Files + AllocGlobal + Threads + Wait + Sync>(
 fn program_prints_writes_and_refuses_as_worked_by_hand(rt: HostRuntime) -> Result<(), Fail> {
     take_tables(&rt, &tables())?;
     expect_lines(&rt, &LINES)?;
+    expect_refused(&rt, &REFUSED)?;
     take_steps(&rt, REMOVED)
 }

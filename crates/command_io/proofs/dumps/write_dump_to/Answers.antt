@@ -1,19 +1,43 @@
+use Rattle.std.proofs.Common.{refl, subst}
 use Rattle.std.proofs.lemmas.Result.{err_from_is_err_and}
+use Rattle.heap_layout.specs.Counted.{failures_of}
 use Rattle.comp_dump.specs.DumpEncoding.{dump_bytes}
+use Rattle.command_io.specs.Dumps.{IsOfDumping}
+use Rattle.command_io.specs.Keeping.{IsOfKeeping}
 use Rattle.command_io.specs.declared.refusal.Output.TheVariants as outputs
-use Rattle.command_io.proofs.Written.{cut_off, whole}
+use Rattle.command_io.proofs.Written.{beginning, created, one_of_dump, uncreated_kept, unflushed_all, whole}
 use Rattle.command_io.proofs.dumps.write_dump_to.Goals as goal
 
-pub returns-in_err-write_flushed-clause-cause : goal.returns-in_err-write_flushed-clause-cause
-returns-in_err-write_flushed-clause-cause g c =
-    let p = err_from_is_err_and c.from_residual-in_err-write_flushed.result c.from_residual-in_err-write_flushed.ensures.1 in
-    let failed = c.in_err-write_flushed.ensures in
-    rw (p.1, p.2) (cut_off (g.F.Files.disk c.args.files.now) g.F.Writer.Write.contents (g.met.F.Files.contents_are c.args.files.now) c.args.path.now (dump_bytes c.args.dump.now)
-    c.in_ok-create.field-0 c.new-w.result c.write_flushed.new.w c.new-w.ensures.inner c.new-w.ensures.none c.in_ok-create.ensures.given _ failed.cause failed.writes failed.counts)
+pub returns-in_err-create-clause-unkept : goal.returns-in_err-create-clause-unkept
+returns-in_err-create-clause-unkept g c =
+    let p = err_from_is_err_and c.from_residual.result c.from_residual.ensures.1 in
+    let failed = c.in_err-create.ensures in
+    rw (p.1, p.2) (uncreated_kept (g.F.Files.disk c.args.files.now) outputs.Dump c.args.path.now c.args.files.now c.create.new.self _ failed.cause failed.after)
 
-pub returns-clause-written : goal.returns-clause-written
-returns-clause-written g c =
-    let done = c.in_ok-write_flushed.ensures in
-    whole (g.F.Files.disk c.args.files.now) g.F.Writer.Write.contents (g.met.F.Files.contents_are c.args.files.now) outputs.Dump c.args.path.now (dump_bytes c.args.dump.now)
-    c.in_ok-create.field-0 c.new-w.result c.write_flushed.new.w c.in_ok-create.ensures.given c.new-w.ensures.inner c.new-w.ensures.none done.writes done.counts done.flushed c.into_inner.result c.into_inner.ensures
-    c.keep.new.self (g.met.F.Files.begun_puts c.args.files.now c.create.new.self c.keep.new.self outputs.Dump c.args.path.now _ c.in_ok-create.ensures.begun c.in_ok-keep.ensures.kept)
+pub returns-in_err-create-clause-cause : goal.returns-in_err-create-clause-cause
+returns-in_err-create-clause-cause g c =
+    let p = err_from_is_err_and c.from_residual.result c.from_residual.ensures.1 in
+    let failed = c.in_err-create.ensures in
+    rw (p.1, p.2) (created (g.F.Files.disk c.args.files.now) outputs.Dump c.args.path.now c.create.new.self
+    (IsOfDumping (g.F.Files.disk c.args.files.now) c.args.path.now (dump_bytes c.args.dump.now) c.create.new.self) (λ barred counted. (refl, barred, counted)) (λ _. tt) _ failed.cause failed.after)
+
+pub returns-in-Err-clause-cause : goal.returns-in-Err-clause-cause
+returns-in-Err-clause-cause g c =
+    let failed = c.in-Err.ensures in
+    let one = one_of_dump (failures_of c.new-w.result) (failures_of c.write_dump.new.w) c.in-Err.fault failed.cause c.new-w.ensures.none failed.counts in
+    rw failed.cause (beginning g.F.Files.disk g.F.Writer.Write.contents c.args.files.now c.create.new.self c.give_up.new.self (g.met.F.Files.contents_are c.args.files.now) outputs.Dump c.args.path.now (dump_bytes c.args.dump.now)
+    c.in_ok-create.field-0 c.new-w.result c.write_dump.new.w c.in_ok-create.ensures.given c.new-w.ensures.inner c.new-w.ensures.none
+    (λ n h. g.met.F.Files.begun_counts c.args.files.now c.create.new.self c.give_up.new.self n c.in_ok-create.ensures.after h) failed.writes one c.give_up.ensures)
+
+pub returns-in-Ok-clause-written : goal.returns-in-Ok-clause-written
+returns-in-Ok-clause-written g c =
+    whole g.F.Files.disk g.F.Writer.Write.contents c.args.files.now c.create.new.self c.keep_all.new.files (g.met.F.Files.contents_are c.args.files.now) outputs.Dump c.args.path.now (dump_bytes c.args.dump.now)
+    c.in_ok-create.field-0 c.new-w.result c.write_dump.new.w c.in_ok-create.ensures.given c.new-w.ensures.inner c.new-w.ensures.none c.in_default.ensures.writes c.in_default.ensures.counts c.in-Ok.ensures.kept
+    (λ w h. g.met.F.Files.begun_puts c.args.files.now c.create.new.self c.keep_all.new.files outputs.Dump c.args.path.now w c.in_ok-create.ensures.after h)
+
+pub returns-in-Err-Device-clause-cause : goal.returns-in-Err-Device-clause-cause
+returns-in-Err-Device-clause-cause g c =
+    let failed = subst (IsOfKeeping (g.F.Files.disk c.create.new.self) g.F.Writer.Write.contents c.write_dump.new.w c.create.new.self c.keep_all.new.files) c.in-Err-Device.field-0-is c.in-Err-Device.ensures.cause in
+    unflushed_all g.F.Files.disk g.F.Writer.Write.contents c.args.files.now c.create.new.self c.keep_all.new.files (g.met.F.Files.contents_are c.args.files.now) outputs.Dump c.args.path.now (dump_bytes c.args.dump.now)
+    c.in_ok-create.field-0 c.new-w.result c.write_dump.new.w c.in_ok-create.ensures.given c.new-w.ensures.inner c.new-w.ensures.none
+    (λ n h. g.met.F.Files.begun_counts c.args.files.now c.create.new.self c.keep_all.new.files n c.in_ok-create.ensures.after h) c.in_default.ensures.writes c.in_default.ensures.counts failed

@@ -3,6 +3,8 @@ use Rattle.std.proofs.lemmas.Result.{err_from_is_err_and, IfErr-weaker, IfOk-wea
 use Rattle.heap_layout.specs.ImageParts.{heap_in}
 use Rattle.command_io.proofs.Imaged.{at_parts}
 use Rattle.commands.specs.Marking.{IsMarkedHeap, IsUnmarkable}
+use Rattle.commands.proofs.FilesLeft.{still}
+use Rattle.commands.proofs.HeapFaults.{unmarked_unnamed}
 use Rattle.commands.proofs.mark.marked_heap.Goals as goal
 
 pub returns-in_err-parts-clause-cause : goal.returns-in_err-parts-clause-cause
@@ -21,3 +23,8 @@ returns-clause-cause g c =
     IfErr-weaker c.mark_by_roots.result _ _
     (λ refusal h. inr (at_parts (g.F.Files.disk c.args.files.now) c.args.large c.args.path.now (heap_in c.in_ok-parts.parts) (λ parts. IsUnmarkable parts refusal) c.in_ok-parts.ensures.parts h))
     c.mark_by_roots.ensures.cause
+
+pub returns-clause-left : goal.returns-clause-left
+returns-clause-left g c =
+    let parts = heap_in c.in_ok-parts.parts in
+    still (g.F.Files.disk c.args.files.now) c.args.files.now c.parts_at.new.files (IsUnmarkable parts) (unmarked_unnamed parts) c.mark_by_roots.result c.in_ok-parts.ensures.left c.mark_by_roots.ensures.cause

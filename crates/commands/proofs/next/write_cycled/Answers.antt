@@ -1,13 +1,14 @@
-use Rattle.std.proofs.Common.{ℕ, List, OnOk, subst}
+use Rattle.std.proofs.Common.{ℕ, List, OnErr, OnOk, subst}
 use Rattle.std.proofs.lemmas.Result.{err_from_is_err_and}
 use Rattle.heap_layout.specs.Counted.{inner_of, failures_of}
 use Rattle.heap_layout.specs.Encoding.{encoding}
 use Rattle.heap_layout.specs.Heap.{live}
+use Rattle.heap_layout.specs.Writing.{AppendsSome}
 use Rattle.page_plan.specs.Sliding.{live_words}
 use Rattle.comp_mutator.proofs.Answering.{ok_anyway}
 use Rattle.command_io.proofs.Outcomes.{uncounted_image, unmade_by, unmade_line}
 use Rattle.comp_trace.specs.declared.steps.shown.Shown.{Shown}
-use Rattle.commands.specs.Replays.{PrintsRun}
+use Rattle.commands.specs.Replays.{run_lines, PrintsRun}
 use Rattle.commands.proofs.NextRuns.{unprinted_next, writing_image}
 use Rattle.commands.proofs.Leavings.{untouched_run, left_stopped}
 use Rattle.commands.proofs.next.write_cycled.Goals as goal
@@ -17,13 +18,13 @@ pub returns-in_err-write_image_to-clause-cause : goal.returns-in_err-write_image
 returns-in_err-write_image_to-clause-cause g c =
     let p = err_from_is_err_and c.from_residual.result c.from_residual.ensures.1 in
     let disk = g.F.Files.disk c.args.files.now in
-    rw (p.1, p.2) (writing_image disk c.args.path.now _ c.write_image_to.new.files _
+    rw (p.1, p.2) (writing_image disk c.args.path.now _ c.write_image_to.new.files (g.O.Write.contents (inner_of c.args.out.now).now) (g.O.Write.contents (inner_of c.args.out.now).now) _ _
     c.in_err-write_image_to.ensures.cause)
 
 pub returns-in_err-write_image_to-clause-output : goal.returns-in_err-write_image_to-clause-output
 returns-in_err-write_image_to-clause-output g c =
     let p = err_from_is_err_and c.from_residual.result c.from_residual.ensures.1 in
-    rw (p.1, p.2) (untouched_run g.O.Write.contents c.args.out.now _ (uncounted_image (g.F.Files.disk c.args.files.now) c.args.path.now (encoding c.args.cycled.now.heap) (failures_of c.args.out.now) _ c.in_err-write_image_to.ensures.cause))
+    rw (p.1, p.2) (untouched_run g.O.Write.contents c.args.out.now _ (uncounted_image (g.F.Files.disk c.args.files.now) c.args.path.now (encoding c.args.cycled.now.heap) c.write_image_to.new.files (failures_of c.args.out.now) _ c.in_err-write_image_to.ensures.cause))
 
 pub returns-in_err-write_image_to-clause-unmade : goal.returns-in_err-write_image_to-clause-unmade
 returns-in_err-write_image_to-clause-unmade g c =
@@ -46,7 +47,12 @@ returns-clause-printed g c =
 pub returns-clause-cause : goal.returns-clause-cause
 returns-clause-cause g c =
     let disk = g.F.Files.disk c.args.files.now in
-    unprinted_next disk c.args.path.now _ c.write_image_to.new.files c.print_run.result c.print_run.ensures.cause
+    let before = g.O.Write.contents (inner_of c.args.out.now).now in
+    let after = g.O.Write.contents (inner_of c.print_run.new.out).now in
+    let total = live_words (live c.args.cycled.now.heap) in
+    unprinted_next disk c.args.path.now _ c.write_image_to.new.files before after (run_lines c.args.cycled.now.shown.items total) c.print_run.result c.print_run.ensures.cause
+    (subst (λ (shown : List Shown). OnErr c.print_run.result (AppendsSome before after (run_lines shown total))) c.deref.ensures.value
+    (subst (λ (n : ℕ). OnErr c.print_run.result (AppendsSome before after (run_lines c.deref.result.now n))) c.live_words.ensures c.print_run.ensures.begun))
     c.in_ok-write_image_to.ensures.written
 
 pub returns-clause-output : goal.returns-clause-output

@@ -1,6 +1,9 @@
-use Rattle.std.proofs.Common.{IfErr, OnOk, Result, subst, sym}
+use Rattle.std.proofs.Common.{◌≡◌, false, IfErr, OnOk, Result, subst, sym}
 use Rattle.heap_layout.specs.Counted.{inner_of}
-use Rattle.commands.proofs.ReplayRuns.{halted_unwritten, ok_both, unmade_anyway}
+use Rattle.command_io.specs.Disk.{names_failure}
+use Rattle.commands.proofs.FilesLeft.{halted_unmade}
+use Rattle.commands.proofs.ReplayRuns.{halted_unwritten, ok_both}
+use Rattle.commands.specs.Cycled.{refusal_by}
 use Rattle.commands.specs.Nexts.{IsWrittenNext, RefusesWriting}
 use Rattle.commands.specs.declared.cycling.Cycled.{Cycled}
 use Rattle.commands.specs.declared.cycling.Uncycled.{Uncycled}
@@ -38,4 +41,6 @@ returns-in-Err-clause-cause g c =
     (halted_unwritten p.result c.args.files.now before after _ _ _ _ said.shown said.refusal p.ensures.cause)
 
 pub returns-in-Err-clause-unmade : goal.returns-in-Err-clause-unmade
-returns-in-Err-clause-unmade g c = unmade_anyway (g.F.Files.disk c.args.files.now) c.args.files.now c.print_halted.result
+returns-in-Err-clause-unmade g c =
+    let none = subst (λ (made : Result Cycled Uncycled). IfErr made (λ left. names_failure (refusal_by left) ≡ false)) c.in-Err.is c.requires.unnamed in
+    halted_unmade (g.F.Files.disk c.args.files.now) c.args.files.now _ (refusal_by c.in-Err.left) c.printed_cycle-refusal.ensures.refusal none _ _ _ c.print_halted.result c.print_halted.ensures.cause

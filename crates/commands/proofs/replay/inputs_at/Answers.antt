@@ -1,7 +1,7 @@
 use Rattle.std.proofs.Common.{ℕ, ap, inl, inr, length, subst, ◌∙◌}
 use Rattle.std.proofs.lemmas.Result.{err_from_is_err_and}
 use Rattle.comp_trace.specs.Traces.{lines_of}
-use Rattle.command_io.specs.Texts.{RefusesTextAt}
+use Rattle.command_io.specs.Texts.{HasLinesAt, RefusesTextAt}
 use Rattle.commands.proofs.TraceRuns.{some_text}
 use Rattle.commands.proofs.replay.inputs_at.Goals as goal
 
@@ -19,7 +19,8 @@ returns-in_err-trace-clause-cause g c =
       c.in_ok-heap.heap,
       c.in_ok-heap.ensures.heap,
       subst (λ (n : ℕ). RefusesTextAt (g.F.Files.disk c.args.files.now) path c.args.mutators n refusal)
-          (ap length c.roots.ensures.roots) c.in_err-trace.ensures.cause,
+          (ap length c.roots.ensures.roots)
+          (subst (λ files. RefusesTextAt (g.F.Files.disk files) path c.args.mutators (length c.roots.result.now) refusal) c.in_ok-heap.ensures.left c.in_err-trace.ensures.cause),
     ))
 
 pub returns-clause-heap : goal.returns-clause-heap
@@ -28,7 +29,8 @@ returns-clause-heap g c = c.in_ok-heap.ensures.heap
 pub returns-clause-lines : goal.returns-clause-lines
 returns-clause-lines g c =
     some_text (g.F.Files.disk c.args.files.now) c.args.trace.now c.args.mutators _ (length c.in_ok-heap.heap.roots) (lines_of c.in_ok-trace.trace)
-    (ap length c.roots.ensures.roots) c.in_ok-trace.ensures.lines
+    (ap length c.roots.ensures.roots)
+    (subst (λ files. HasLinesAt (g.F.Files.disk files) c.args.trace.now c.args.mutators (length c.roots.result.now) (lines_of c.in_ok-trace.trace)) c.in_ok-heap.ensures.left c.in_ok-trace.ensures.lines)
 
 pub returns-clause-counts : goal.returns-clause-counts
 returns-clause-counts g c = (c.in_ok-trace.ensures.counts.0, c.in_ok-trace.ensures.counts.1 ∙ ap length c.roots.ensures.roots)

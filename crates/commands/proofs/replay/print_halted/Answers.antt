@@ -15,7 +15,7 @@ pub returns-in_err-send_shown-clause-cause : goal.returns-in_err-send_shown-clau
 returns-in_err-send_shown-clause-cause g c =
     let p = err_from_is_err_and c.from_residual.result c.from_residual.ensures.1 in
     let refusal = c.in_err-send_shown.field-0.0 in
-    rw (p.1, p.2) (inr (of_unprinted (Err refusal) refusal refl c.in_err-send_shown.ensures.cause))
+    rw (p.1, p.2) (inr (of_unprinted (Err refusal) refusal refl c.in_err-send_shown.ensures.cause, c.in_err-send_shown.ensures.begun))
 
 -- What was shown is printed.
 pub returns-clause-cause : goal.returns-clause-cause
@@ -31,4 +31,5 @@ returns-clause-output g c =
       counts = halt_counted shown (failures_of c.args.out.now) (failures_of c.send_shown.new.out) c.args.refusal sent.output.counts c.requires.halted;
       same_writer = sent.output.same_writer;
       printed = halt_unprinted before after shown sent.printed c.args.refusal c.requires.halted;
+      sent = λ other flushed. sent.flushed;
     }

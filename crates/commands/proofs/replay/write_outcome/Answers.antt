@@ -1,9 +1,10 @@
 use Rattle.std.proofs.Common.{IfErr, OnOk, Result, subst, sym}
 use Rattle.heap_layout.specs.Counted.{inner_of}
-use Rattle.commands.specs.Outcomes.{IsWritten, RefusesOutcome}
+use Rattle.commands.specs.Outcomes.{refusal_of, IsWritten, RefusesOutcome}
 use Rattle.comp_trace.specs.declared.replays.running.Halt.{Halt}
 use Rattle.commands.specs.declared.replays.Replayed.{Replayed}
-use Rattle.commands.proofs.ReplayRuns.{halted_unwritten, ok_both, uncreated_anyway}
+use Rattle.commands.proofs.FilesLeft.{halted_unmade, halted_unnamed}
+use Rattle.commands.proofs.ReplayRuns.{halted_unwritten, ok_both}
 use Rattle.commands.proofs.replay.write_outcome.Goals as goal
 
 -- The run came to its end.
@@ -33,5 +34,7 @@ returns-in-Err-clause-cause g c =
     subst (λ (o : Result Replayed Halt). IfErr p.result (RefusesOutcome (g.F.Files.disk c.args.files.now) c.args.asked c.args.files.now c.args.files.now before after o)) (sym c.in-Err.is)
     (halted_unwritten p.result c.args.files.now before after _ _ _ _ said.shown said.refusal p.ensures.cause)
 
-pub returns-in-Err-clause-uncreated : goal.returns-in-Err-clause-uncreated
-returns-in-Err-clause-uncreated g c = uncreated_anyway (g.F.Files.disk c.args.files.now) c.args.files.now c.print_halted.result
+pub returns-in-Err-clause-unmade : goal.returns-in-Err-clause-unmade
+returns-in-Err-clause-unmade g c =
+    let said = c.printed-refusal.ensures in
+    halted_unmade (g.F.Files.disk c.args.files.now) c.args.files.now _ (refusal_of c.in-Err.halt) said.refusal (halted_unnamed c.in-Err.halt) _ _ _ c.print_halted.result c.print_halted.ensures.cause

@@ -13,7 +13,7 @@ returns-clause-cause g c =
     let output = g.O.Write.contents (inner_of c.args.out.now).now in
     err_by (RefusesTask (g.F.Files.disk c.args.files.now) c.args.files.now c.print_task.new.files output (g.O.Write.contents (inner_of c.flush.new.out).now) c.args.task)
     c.flush.result c.flush.ensures.cause (unflushed_task (g.F.Files.disk c.args.files.now) c.print_task.new.files output (g.O.Write.contents (inner_of c.print_task.new.out).now)
-    (g.O.Write.contents (inner_of c.flush.new.out).now) c.args.files.now c.args.task c.in_ok-print_task.ensures.done)
+    (g.O.Write.contents (inner_of c.flush.new.out).now) c.flush.ensures.kept c.args.files.now c.args.task c.in_ok-print_task.ensures.done)
 
-pub returns-clause-uncreated : goal.returns-clause-uncreated
-returns-clause-uncreated g c = unmade_line (g.F.Files.disk c.args.files.now) c.args.files.now c.print_task.new.files c.flush.result c.flush.ensures.cause
+pub returns-clause-unmade : goal.returns-clause-unmade
+returns-clause-unmade g c = unmade_line (g.F.Files.disk c.args.files.now) c.args.files.now c.print_task.new.files c.flush.result c.flush.ensures.cause

@@ -1,32 +1,34 @@
-use Rattle.std.proofs.Common.{IfErr, OnOk, refl, subst, sym}
+use Rattle.std.proofs.Common.{◌≡◌, rules, ℕ, List, IfErr, OnErr, OnOk, refl, subst, sym}
 use Rattle.heap_layout.specs.Counted.{inner_of}
+use Rattle.heap_layout.specs.Writing.{AppendsSome}
 use Rattle.command_line.specs.declared.words.Task.{Task}
 use Rattle.command_line.specs.Runs.{audit_of}
 use Rattle.commands.specs.Audits.{RefusedUnexplained, RefusesAudit, LeavesUnexplained}
 use Rattle.commands.specs.Tasks.{DoesTask, RefusesTask}
-use Rattle.command_io.proofs.Outcomes.{unmade_too}
-use Rattle.commands.proofs.ReplayRuns.{unmade_anyway}
+use Rattle.command_io.specs.Printing.{help_lines}
+use Rattle.command_io.proofs.Begun.{failed_by}
+use Rattle.command_io.proofs.Outcomes.{unmade_line}
+use Rattle.commands.proofs.FilesLeft.{read_unmade}
 use Rattle.commands.proofs.ComparedAudits.{both_err, left_unprinted}
-use Rattle.commands.proofs.Performed.{err_by}
 use Rattle.commands.specs.Replays.{StopsUnprinted}
 use Rattle.commands.proofs.Leavings.{line_left, left_by, left_stopped}
 use Rattle.commands.proofs.running.print_task.Goals as goal
 
 pub returns-in-Plan-clause-done : goal.returns-in-Plan-clause-done
 returns-in-Plan-clause-done g c =
-    subst (λ (task : Task). OnOk c.print_plan.result (DoesTask (g.F.Files.disk c.args.files.now) c.args.files.now (g.O.Write.contents (inner_of c.args.out.now).now) (g.O.Write.contents (inner_of c.print_plan.new.out).now) task)) (sym c.in-Plan.is) c.print_plan.ensures.printed
+    subst (λ (task : Task). OnOk c.print_plan.result (DoesTask (g.F.Files.disk c.args.files.now) c.print_plan.new.files (g.O.Write.contents (inner_of c.args.out.now).now) (g.O.Write.contents (inner_of c.print_plan.new.out).now) task)) (sym c.in-Plan.is) c.print_plan.ensures.printed
 
 pub returns-in-Plan-clause-cause : goal.returns-in-Plan-clause-cause
 returns-in-Plan-clause-cause g c =
-    subst (λ (task : Task). IfErr c.print_plan.result (RefusesTask (g.F.Files.disk c.args.files.now) c.args.files.now c.args.files.now (g.O.Write.contents (inner_of c.args.out.now).now) (g.O.Write.contents (inner_of c.print_plan.new.out).now) task)) (sym c.in-Plan.is) c.print_plan.ensures.cause
+    subst (λ (task : Task). IfErr c.print_plan.result (RefusesTask (g.F.Files.disk c.args.files.now) c.args.files.now c.print_plan.new.files (g.O.Write.contents (inner_of c.args.out.now).now) (g.O.Write.contents (inner_of c.print_plan.new.out).now) task)) (sym c.in-Plan.is) c.print_plan.ensures.cause
 
 pub returns-in-Word-clause-done : goal.returns-in-Word-clause-done
 returns-in-Word-clause-done g c =
-    subst (λ (task : Task). OnOk c.print_word.result (DoesTask (g.F.Files.disk c.args.files.now) c.args.files.now (g.O.Write.contents (inner_of c.args.out.now).now) (g.O.Write.contents (inner_of c.print_word.new.out).now) task)) (sym c.in-Word.is) c.print_word.ensures.printed
+    subst (λ (task : Task). OnOk c.print_word.result (DoesTask (g.F.Files.disk c.args.files.now) c.print_word.new.files (g.O.Write.contents (inner_of c.args.out.now).now) (g.O.Write.contents (inner_of c.print_word.new.out).now) task)) (sym c.in-Word.is) c.print_word.ensures.printed
 
 pub returns-in-Word-clause-cause : goal.returns-in-Word-clause-cause
 returns-in-Word-clause-cause g c =
-    subst (λ (task : Task). IfErr c.print_word.result (RefusesTask (g.F.Files.disk c.args.files.now) c.args.files.now c.args.files.now (g.O.Write.contents (inner_of c.args.out.now).now) (g.O.Write.contents (inner_of c.print_word.new.out).now) task)) (sym c.in-Word.is) c.print_word.ensures.cause
+    subst (λ (task : Task). IfErr c.print_word.result (RefusesTask (g.F.Files.disk c.args.files.now) c.args.files.now c.print_word.new.files (g.O.Write.contents (inner_of c.args.out.now).now) (g.O.Write.contents (inner_of c.print_word.new.out).now) task)) (sym c.in-Word.is) c.print_word.ensures.cause
 
 pub returns-in-Replay-clause-done : goal.returns-in-Replay-clause-done
 returns-in-Replay-clause-done g c =
@@ -54,23 +56,23 @@ returns-in-Compact-clause-cause g c =
 
 pub returns-in-Audit-clause-done : goal.returns-in-Audit-clause-done
 returns-in-Audit-clause-done g c =
-    subst (λ (task : Task). OnOk c.print_audit.result (DoesTask (g.F.Files.disk c.args.files.now) c.args.files.now (g.O.Write.contents (inner_of c.args.out.now).now) (g.O.Write.contents (inner_of c.print_audit.new.out).now) task)) (sym c.in-Audit.is) c.print_audit.ensures.passed
+    subst (λ (task : Task). OnOk c.print_audit.result (DoesTask (g.F.Files.disk c.args.files.now) c.print_audit.new.files (g.O.Write.contents (inner_of c.args.out.now).now) (g.O.Write.contents (inner_of c.print_audit.new.out).now) task)) (sym c.in-Audit.is) c.print_audit.ensures.passed
 
 pub returns-in-Moved-clause-done : goal.returns-in-Moved-clause-done
 returns-in-Moved-clause-done g c =
-    subst (λ (task : Task). OnOk c.print_moved.result (DoesTask (g.F.Files.disk c.args.files.now) c.args.files.now (g.O.Write.contents (inner_of c.args.out.now).now) (g.O.Write.contents (inner_of c.print_moved.new.out).now) task)) (sym c.in-Moved.is) c.print_moved.ensures.passed
+    subst (λ (task : Task). OnOk c.print_moved.result (DoesTask (g.F.Files.disk c.args.files.now) c.print_moved.new.files (g.O.Write.contents (inner_of c.args.out.now).now) (g.O.Write.contents (inner_of c.print_moved.new.out).now) task)) (sym c.in-Moved.is) c.print_moved.ensures.passed
 
 pub returns-in-Audit-clause-cause : goal.returns-in-Audit-clause-cause
 returns-in-Audit-clause-cause g c =
     let disk = g.F.Files.disk c.args.files.now in
     let before = g.O.Write.contents (inner_of c.args.out.now).now in
     let after = g.O.Write.contents (inner_of c.print_audit.new.out).now in
-    subst (λ (task : Task). IfErr c.print_audit.result (RefusesTask disk c.args.files.now c.args.files.now before after task)) (sym c.in-Audit.is)
-    (both_err (RefusesAudit disk (audit_of c.in-Audit.run')) (RefusedUnexplained disk (audit_of c.in-Audit.run') before after) c.print_audit.result c.print_audit.ensures.cause c.print_audit.ensures.output.printed)
+    subst (λ (task : Task). IfErr c.print_audit.result (RefusesTask disk c.args.files.now c.print_audit.new.files before after task)) (sym c.in-Audit.is)
+    (both_err (RefusesAudit disk (audit_of c.in-Audit.run') before after) (RefusedUnexplained disk (audit_of c.in-Audit.run') before after) c.print_audit.result c.print_audit.ensures.cause c.print_audit.ensures.output.printed)
 
 pub returns-in-Moved-clause-cause : goal.returns-in-Moved-clause-cause
 returns-in-Moved-clause-cause g c =
-    subst (λ (task : Task). IfErr c.print_moved.result (RefusesTask (g.F.Files.disk c.args.files.now) c.args.files.now c.args.files.now (g.O.Write.contents (inner_of c.args.out.now).now) (g.O.Write.contents (inner_of c.print_moved.new.out).now) task)) (sym c.in-Moved.is) c.print_moved.ensures.cause
+    subst (λ (task : Task). IfErr c.print_moved.result (RefusesTask (g.F.Files.disk c.args.files.now) c.args.files.now c.print_moved.new.files (g.O.Write.contents (inner_of c.args.out.now).now) (g.O.Write.contents (inner_of c.print_moved.new.out).now) task)) (sym c.in-Moved.is) c.print_moved.ensures.cause
 
 pub returns-in-Next-clause-done : goal.returns-in-Next-clause-done
 returns-in-Next-clause-done g c =
@@ -93,11 +95,15 @@ returns-in-Mark-clause-cause g c =
 
 pub returns-in-Help-clause-cause : goal.returns-in-Help-clause-cause
 returns-in-Help-clause-cause g c =
-    subst (λ (task : Task). IfErr c.print_help.result (RefusesTask (g.F.Files.disk c.args.files.now) c.args.files.now c.args.files.now (g.O.Write.contents (inner_of c.args.out.now).now) (g.O.Write.contents (inner_of c.print_help.new.out).now) task)) (sym c.in-Help.is) (err_by _ c.print_help.result c.print_help.ensures.cause refl)
+    let before = g.O.Write.contents (inner_of c.args.out.now).now in
+    let after = g.O.Write.contents (inner_of c.print_help.new.out).now in
+    let text : c.deref.result.now ≡ c.in-Help.text.bytes.items = search rules in
+    let begun = subst (λ (t : List ℕ). OnErr c.print_help.result (AppendsSome before after (help_lines t))) text c.print_help.ensures.begun in
+    subst (λ (task : Task). IfErr c.print_help.result (RefusesTask (g.F.Files.disk c.args.files.now) c.args.files.now c.args.files.now before after task)) (sym c.in-Help.is) (failed_by _ _ (λ some. (refl, some)) c.print_help.result c.print_help.ensures.cause begun)
 
 pub returns-in-Version-clause-cause : goal.returns-in-Version-clause-cause
 returns-in-Version-clause-cause g c =
-    subst (λ (task : Task). IfErr c.print_text.result (RefusesTask (g.F.Files.disk c.args.files.now) c.args.files.now c.args.files.now (g.O.Write.contents (inner_of c.args.out.now).now) (g.O.Write.contents (inner_of c.print_text.new.out).now) task)) (sym c.in-Version.is) (err_by _ c.print_text.result c.print_text.ensures.cause refl)
+    subst (λ (task : Task). IfErr c.print_text.result (RefusesTask (g.F.Files.disk c.args.files.now) c.args.files.now c.args.files.now (g.O.Write.contents (inner_of c.args.out.now).now) (g.O.Write.contents (inner_of c.print_text.new.out).now) task)) (sym c.in-Version.is) (failed_by _ _ (λ some. (refl, some)) c.print_text.result c.print_text.ensures.cause c.print_text.ensures.begun)
 
 pub returns-in-Plan-clause-output : goal.returns-in-Plan-clause-output
 returns-in-Plan-clause-output g c = left_stopped g.O.Write.contents c.args.out.now c.print_plan.new.out c.print_plan.result c.print_plan.ensures.output
@@ -137,38 +143,38 @@ returns-in-Version-clause-output g c =
     left_stopped g.O.Write.contents c.args.out.now c.print_text.new.out c.print_text.result
     (line_left g.O.Write.contents c.args.out.now c.print_text.new.out c.print_text.result c.print_text.ensures.cause c.print_text.ensures.counts c.print_text.ensures.same_writer)
 
-pub returns-in-Replay-clause-uncreated : goal.returns-in-Replay-clause-uncreated
-returns-in-Replay-clause-uncreated g c = unmade_too (g.F.Files.disk c.args.files.now) c.args.files.now c.print_replay.new.files c.print_replay.result c.print_replay.ensures.uncreated
+pub returns-in-Replay-clause-unmade : goal.returns-in-Replay-clause-unmade
+returns-in-Replay-clause-unmade g c = c.print_replay.ensures.unmade
 
-pub returns-in-Race-clause-uncreated : goal.returns-in-Race-clause-uncreated
-returns-in-Race-clause-uncreated g c = unmade_too (g.F.Files.disk c.args.files.now) c.args.files.now c.print_race.new.files c.print_race.result c.print_race.ensures.uncreated
+pub returns-in-Race-clause-unmade : goal.returns-in-Race-clause-unmade
+returns-in-Race-clause-unmade g c = c.print_race.ensures.unmade
 
-pub returns-in-Compact-clause-uncreated : goal.returns-in-Compact-clause-uncreated
-returns-in-Compact-clause-uncreated g c = unmade_too (g.F.Files.disk c.args.files.now) c.args.files.now c.print_compact.new.files c.print_compact.result c.print_compact.ensures.uncreated
+pub returns-in-Compact-clause-unmade : goal.returns-in-Compact-clause-unmade
+returns-in-Compact-clause-unmade g c = c.print_compact.ensures.unmade
 
-pub returns-in-Next-clause-uncreated : goal.returns-in-Next-clause-uncreated
-returns-in-Next-clause-uncreated g c = c.print_next.ensures.unmade
+pub returns-in-Next-clause-unmade : goal.returns-in-Next-clause-unmade
+returns-in-Next-clause-unmade g c = c.print_next.ensures.unmade
 
-pub returns-in-Mark-clause-uncreated : goal.returns-in-Mark-clause-uncreated
-returns-in-Mark-clause-uncreated g c = c.print_mark.ensures.unmade
+pub returns-in-Mark-clause-unmade : goal.returns-in-Mark-clause-unmade
+returns-in-Mark-clause-unmade g c = c.print_mark.ensures.unmade
 
-pub returns-in-Plan-clause-uncreated : goal.returns-in-Plan-clause-uncreated
-returns-in-Plan-clause-uncreated g c = unmade_anyway (g.F.Files.disk c.args.files.now) c.args.files.now c.print_plan.result
+pub returns-in-Plan-clause-unmade : goal.returns-in-Plan-clause-unmade
+returns-in-Plan-clause-unmade g c = read_unmade (g.F.Files.disk c.args.files.now) c.args.files.now c.print_plan.new.files c.print_plan.result c.print_plan.ensures.left
 
-pub returns-in-Word-clause-uncreated : goal.returns-in-Word-clause-uncreated
-returns-in-Word-clause-uncreated g c = unmade_anyway (g.F.Files.disk c.args.files.now) c.args.files.now c.print_word.result
+pub returns-in-Word-clause-unmade : goal.returns-in-Word-clause-unmade
+returns-in-Word-clause-unmade g c = read_unmade (g.F.Files.disk c.args.files.now) c.args.files.now c.print_word.new.files c.print_word.result c.print_word.ensures.left
 
-pub returns-in-Audit-clause-uncreated : goal.returns-in-Audit-clause-uncreated
-returns-in-Audit-clause-uncreated g c = unmade_anyway (g.F.Files.disk c.args.files.now) c.args.files.now c.print_audit.result
+pub returns-in-Audit-clause-unmade : goal.returns-in-Audit-clause-unmade
+returns-in-Audit-clause-unmade g c = read_unmade (g.F.Files.disk c.args.files.now) c.args.files.now c.print_audit.new.files c.print_audit.result c.print_audit.ensures.left
 
-pub returns-in-Moved-clause-uncreated : goal.returns-in-Moved-clause-uncreated
-returns-in-Moved-clause-uncreated g c = unmade_anyway (g.F.Files.disk c.args.files.now) c.args.files.now c.print_moved.result
+pub returns-in-Moved-clause-unmade : goal.returns-in-Moved-clause-unmade
+returns-in-Moved-clause-unmade g c = read_unmade (g.F.Files.disk c.args.files.now) c.args.files.now c.print_moved.new.files c.print_moved.result c.print_moved.ensures.left
 
-pub returns-in-Help-clause-uncreated : goal.returns-in-Help-clause-uncreated
-returns-in-Help-clause-uncreated g c = unmade_anyway (g.F.Files.disk c.args.files.now) c.args.files.now c.print_help.result
+pub returns-in-Help-clause-unmade : goal.returns-in-Help-clause-unmade
+returns-in-Help-clause-unmade g c = unmade_line (g.F.Files.disk c.args.files.now) c.args.files.now c.args.files.now c.print_help.result c.print_help.ensures.cause
 
-pub returns-in-Version-clause-uncreated : goal.returns-in-Version-clause-uncreated
-returns-in-Version-clause-uncreated g c = unmade_anyway (g.F.Files.disk c.args.files.now) c.args.files.now c.print_text.result
+pub returns-in-Version-clause-unmade : goal.returns-in-Version-clause-unmade
+returns-in-Version-clause-unmade g c = unmade_line (g.F.Files.disk c.args.files.now) c.args.files.now c.args.files.now c.print_text.result c.print_text.ensures.cause
 
 pub returns-in-Map-clause-done : goal.returns-in-Map-clause-done
 returns-in-Map-clause-done g c =
@@ -181,5 +187,5 @@ returns-in-Map-clause-cause g c =
 pub returns-in-Map-clause-output : goal.returns-in-Map-clause-output
 returns-in-Map-clause-output g c = left_stopped g.O.Write.contents c.args.out.now c.print_map.new.out c.print_map.result c.print_map.ensures.output
 
-pub returns-in-Map-clause-uncreated : goal.returns-in-Map-clause-uncreated
-returns-in-Map-clause-uncreated g c = c.print_map.ensures.unmade
+pub returns-in-Map-clause-unmade : goal.returns-in-Map-clause-unmade
+returns-in-Map-clause-unmade g c = c.print_map.ensures.unmade

@@ -13,4 +13,4 @@ returns-clause-unprinted g c =
     c.print_race.result c.print_race.ensures.cause
 
 pub returns-clause-refused : goal.returns-clause-refused
-returns-clause-refused g c = unchanged c.args.files.now c.print_race.new.files c.print_race.result c.print_race.ensures.uncreated
+returns-clause-refused g c = unchanged c.args.files.now c.print_race.new.files c.print_race.result c.print_race.ensures.unmade

@@ -13,4 +13,4 @@ returns-clause-unprinted g c =
     c.print_replay.result c.print_replay.ensures.cause
 
 pub returns-clause-refused : goal.returns-clause-refused
-returns-clause-refused g c = unchanged c.args.files.now c.print_replay.new.files c.print_replay.result c.print_replay.ensures.uncreated
+returns-clause-refused g c = unchanged c.args.files.now c.print_replay.new.files c.print_replay.result c.print_replay.ensures.unmade
