@@ -1,5 +1,6 @@
 //! The heap of the three objects through two cycles, with values worked out by hand: in each cycle the mutator makes an
 //! object on page 3, its first fresh page, writes 9 into it, and stores it in the object of the root.
+ghost use Rattle.comp_mutator.specs.Ends.{IsEndOf};
 ghost use Rattle.comp_mutator.specs.Finishes.{IsOfFlip};
 
 use crate::cycles::{compacted, followed, live_twice, planned};
@@ -104,6 +105,25 @@ fn expect_left(
     assert_eq!(rt; verdict, Verdict::Yes, "{}", At::new(case, 0));
 }
 
+// Checks what page 0 began with, before the mutator wrote to it: these words, and then zeros.
+fn expect_base(
+    rt: &impl Abort,
+    alloc: Global,
+    case: &str,
+    plan: &Plan,
+    left: &Finished,
+    base: [u64; 4],
+)
+    requires { IsEndOf plan.now left.now }
+{
+    let made = left.pages().journaled(alloc, plan, 0).expect(rt, "memory");
+    let page = made.expect(rt, "a page that was built");
+    for (index, word) in page.base().iter().enumerate() {
+        let wanted = base.get(index).copied().unwrap_or(0);
+        assert_eq!(rt; *word, wanted, "{}", At::new(case, index));
+    }
+}
+
 // Checks the heap with which the next cycle begins.
 fn expect_next(rt: &impl Abort, case: &str, heap: &MarkedHeap, marks: &[u32], wanted: &Wanted) {
     assert_eq!(rt; heap.words().len(), 576, "{}", At::new(case, 0));
@@ -132,6 +152,7 @@ fn expect_two_cycles<R: Abort + Threads + Wait + Sync>(rt: &R, alloc: Global) {
         &left,
         &after_first(T + 192, T + 2),
     );
+    expect_base(rt, alloc, "first base", &plan, &left, [FIRST, 11, LAST, T]);
     let kept = [2u32, 192].to_vec(alloc).expect(rt, "marks");
     let next = followed(alloc, &plan, left, kept).expect(rt, "the next heap");
     expect_next(
@@ -150,6 +171,14 @@ fn expect_two_cycles<R: Abort + Threads + Wait + Sync>(rt: &R, alloc: Global) {
         &second,
         &again,
         &after_second(T + 192, T),
+    );
+    expect_base(
+        rt,
+        alloc,
+        "second base",
+        &second,
+        &again,
+        [LAST, T + 2, MADE, 9],
     );
 }
 

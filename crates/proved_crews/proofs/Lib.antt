@@ -1,0 +1,2 @@
+mod Done
+mod Living

@@ -1,0 +1,6 @@
+use Rattle.std.proofs.Common.{eqb-true}
+use Rattle.proved_crews.proofs.Done.{take_done}
+use Rattle.proved_crews.proofs.calls.take.Goals as goal
+
+pub returns : goal.returns
+returns c = λ zero. take_done c.args.crew.now.kept c.take_member.new.crew.kept c.args.m.now.kept c.take_member.new.out.kept c.take_member.result c.take_member.ensures (eqb-true c.take_member.result.status 0 zero)

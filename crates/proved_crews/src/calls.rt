@@ -1,0 +1,63 @@
+//! Calls by handles. Each answers whether it was done.
+ghost use Rattle.std.specs.Prelude.{◌≡◌, IsTrue};
+ghost use Rattle.heap_layout.specs.Heap.{Heap};
+ghost use Rattle.comp_crew.specs.Members.{setup_in};
+ghost use Rattle.comp_crew.specs.declared.crew.Crew.{Crew};
+ghost use Rattle.comp_handle.specs.Crewing.{planned};
+ghost use Rattle.std.specs.Prelude.{Some};
+ghost use Rattle.proved_crews.specs.Crews.{AreFellows, AreOfOneCrew, KeepsCrew, KeepsEnd, KeepsFlip, KeepsHeap, KeepsMutator, KeepsNext};
+
+use comp_handle::Handle;
+use std::alloc::Global;
+
+/// Plans the heap of a handle.
+pub fn plan(alloc: Global, h: &mut Handle) -> bool
+    ensures { IsTrue result → (heap : Heap) → KeepsHeap heap h.old.kept → planned h.new.kept ≡ Some heap }
+{
+    comp_handle::plan_heap(alloc, h).status == 0
+}
+
+/// Flips the heap of a plan for a crew of this name.
+pub fn flip(alloc: Global, plan: &mut Handle, name: u64, n: u32, crew: &mut Handle) -> bool
+    ensures same { plan.new.kept ≡ plan.old.kept }
+    ensures flipped { IsTrue result → (heap : Heap) × (planned plan.old.kept ≡ Some heap) × KeepsFlip heap name crew.new.kept }
+{
+    comp_handle::flip_crew(alloc, plan, name, n, 2, crew).status == 0
+}
+
+/// Takes a mutator out of a crew.
+pub fn take(alloc: Global, crew: &mut Handle, m: &mut Handle) -> bool
+    ensures { IsTrue result → (c : Crew) → KeepsCrew c crew.old.kept → KeepsCrew c crew.new.kept × KeepsMutator c m.new.kept }
+{
+    comp_handle::take_member(alloc, crew, m).status == 0
+}
+
+/// Lets two mutators of one crew meet.
+pub fn meet(alloc: Global, m: &mut Handle, other: &mut Handle) -> bool
+    requires { AreFellows m.old.kept other.old.kept }
+    ensures { IsTrue result → (c : Crew) → KeepsMutator c m.old.kept → KeepsMutator c other.old.kept → KeepsMutator c m.new.kept × KeepsMutator c other.new.kept }
+{
+    comp_handle::meet_members(alloc, m, other).status == 0
+}
+
+/// Hands a mutator back to its crew.
+pub fn give(alloc: Global, crew: &mut Handle, m: &mut Handle) -> bool
+    requires { AreOfOneCrew crew.old.kept m.old.kept }
+    ensures { IsTrue result → (c : Crew) → KeepsCrew c crew.old.kept → KeepsCrew c crew.new.kept }
+{
+    comp_handle::give_member(alloc, crew, m).status == 0
+}
+
+/// Finishes a crew.
+pub fn finish(alloc: Global, crew: &mut Handle) -> bool
+    ensures { IsTrue result → (c : Crew) → KeepsCrew c crew.old.kept → KeepsEnd (setup_in c).heap crew.new.kept }
+{
+    comp_handle::finish_crew(alloc, crew).status == 0
+}
+
+/// Makes the heap with which the next cycle begins.
+pub fn follow(alloc: Global, end: &mut Handle, roots: &[u64]) -> bool
+    ensures { IsTrue result → (heap : Heap) → KeepsEnd heap end.old.kept → KeepsNext heap roots.now end.new.kept }
+{
+    comp_handle::follow_reached(alloc, end, roots).status == 0
+}
