@@ -1,0 +1,20 @@
+//! Collections of a heap at rest, compared with what a person works out and with a plain model. The heaps are drawn:
+//! between their objects lie words that are no objects, and an object that nothing reaches may be no object any more.
+#![tactic(auto)]
+
+#[cfg(test)]
+mod drawing;
+#[cfg(test)]
+mod drawn_faults;
+#[cfg(test)]
+mod drawn_heaps;
+#[cfg(test)]
+mod drawn_surveys;
+#[cfg(test)]
+mod expected;
+#[cfg(test)]
+mod plain_heap;
+#[cfg(test)]
+mod refused_memory;
+#[cfg(test)]
+mod worked_heaps;
