@@ -129,10 +129,10 @@ module _ (heap : Heap) (is : IsSound heap) where
   abbrev settle : ℕ → ℕ
   settle word = settled_word heap.edition objects word
 
-  many : length (places heap) ≡ length heap.marks
+  pub many : length (places heap) ≡ length heap.marks
   many = length-map (range_with_len 0 (length heap.marks)) (λ k. live_words (take k (live heap))) ∙ length-range_with_len 0 (length heap.marks)
 
-  place-at : (k : ℕ) → k < length heap.marks → get_or (places heap) k 0 ≡ place k
+  pub place-at : (k : ℕ) → k < length heap.marks → get_or (places heap) k 0 ≡ place k
   place-at k lt = get_or-map-range_with_len (λ n. live_words (take n (live heap))) 0 (length heap.marks) k k 0 lt (omega arith)
 
   -- the places are where the objects of the new words start
@@ -146,13 +146,13 @@ module _ (heap : Heap) (is : IsSound heap) where
       offsets-at heap.edition heap.words 0 heap.marks k within ∙ omega (arith, place-at k within))
 
   -- the header of an object stands at its place
-  header-there : (k : ℕ) → k < length heap.marks → header_at heap.edition words (place k) ≡ header_at heap.edition heap.words (mark k)
+  pub header-there : (k : ℕ) → k < length heap.marks → header_at heap.edition words (place k) ≡ header_at heap.edition heap.words (mark k)
   header-there k lt =
       let first : place k + 0 ≡ place k = omega arith in
       ap (header_of heap.edition) (ap (λ (n : ℕ). get_or words n 0) (sym first)
       ∙ settled-at heap is k 0 lt (omega arith) ∙ settled-header heap.edition objects heap.words (mark k))
 
-  placed-there : (k : ℕ) → k < length heap.marks → IsPlaced heap.edition words (place k)
+  pub placed-there : (k : ℕ) → k < length heap.marks → IsPlaced heap.edition words (place k)
   placed-there k lt =
       let sized = ap size_of (header-there k lt) in
       let own = live_words-next heap.edition heap.words heap.marks k lt in
@@ -161,7 +161,7 @@ module _ (heap : Heap) (is : IsSound heap) where
       record { within = omega (arith, sized, own, part, settled-all heap is); short = omega (arith, sized, old.short) }
 
   -- a word of an object that refers
-  word-there : (k f : ℕ) → k < length heap.marks → 1 ≤ f → f ≤ refs_of (header_at heap.edition heap.words (mark k)) + weak_of (header_at heap.edition heap.words (mark k))
+  pub word-there : (k f : ℕ) → k < length heap.marks → 1 ≤ f → f ≤ refs_of (header_at heap.edition heap.words (mark k)) + weak_of (header_at heap.edition heap.words (mark k))
       → get_or words (place k + f) 0 ≡ settle (get_or heap.words (mark k + f) 0)
   word-there k f lt positive le =
       settled-at heap is k f lt (omega (arith, le)) ∙ settled-refers heap.edition objects heap.words (mark k) f (is.placed k 0 lt) positive le
@@ -289,7 +289,7 @@ module _ (heap : Heap) (is : IsSound heap) where
   -- ---- what is reached
 
   -- the address of an object becomes that of its place
-  address-there : (k : ℕ) → k < length heap.marks → settle (from_address (mark k)) ≡ from_address (place k)
+  pub address-there : (k : ℕ) → k < length heap.marks → settle (from_address (mark k)) ≡ from_address (place k)
   address-there k lt =
       let word = from_address (mark k) in
       let below = live_below (live_indices objects) (word - 2 ^ 32) in

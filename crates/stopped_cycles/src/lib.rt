@@ -1,0 +1,8 @@
+//! A collection of a heap at rest, in object numbers: it moves objects and changes nothing.
+#![tactic(auto)]
+
+mod laws;
+#[cfg(test)]
+mod tests;
+
+pub use laws::collected_in_object_numbers;
