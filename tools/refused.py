@@ -59,6 +59,8 @@ COMMANDS = [
     ("next --reachable --mutators 1 --fresh 2 three.img fresh.trace left.dump", ["live 3\n"], 1576),
     ("next --reachable --roots new.roots --mutators 1 --fresh 2 three.img fresh.trace left.dump", ["live 1\n"], 1572),
     ("mark three.img left.dump", ["live 4\n"], 96),
+    ("collect --workers 2 three.img left.dump", ["live 4\n"], 72),
+    ("collect --large --workers 1 four.img left.dump", ["live 4\n"], 80),
     ("map three.img left.dump", ["live 4\n"], PICTURE),
     ("map --dump fresh.dump three.img left.dump", ["live 4\n"], PICTURE),
     ("map --dump wrong.dump three.img left.dump", ["live 4\n"], PICTURE),

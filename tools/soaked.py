@@ -66,6 +66,29 @@ def reached(edition, words, seek):
     return sorted(met)
 
 
+def weak_words(edition, word):
+    """How many weak words the object of a header has."""
+    if edition == 1:
+        return 0
+    if edition >= 3 and word >> 62:
+        return word & 0x7FFFFFFF if word >> 62 == 3 else 0
+    return word >> 32 & 65535
+
+
+def slid(edition, words, roots):
+    """What a collection by these roots leaves: the words, the marks and the roots. A plain walk."""
+    marks, places, end = reached(edition, words, [root - FROM for root in roots if leads(root)]), {}, 0
+    for at in marks:
+        places[FROM + at] = FROM + end
+        end += sizes(edition, words[at])[1]
+    settled = [word if not leads(word) else places.get(word, 0) for word in words]
+    left = []
+    for at in marks:
+        refers = sizes(edition, words[at])[0] + weak_words(edition, words[at])
+        left += [words[at], *settled[at + 1 : at + 1 + refers], *words[at + 1 + refers : at + sizes(edition, words[at])[1]]]
+    return left, [place - FROM for place in places.values()], [places.get(root, 0) if leads(root) else root for root in roots]
+
+
 def image_of(edition, words, marks, roots):
     """The bytes of an image."""
     image = b"COMPHEAP" + struct.pack("<IIII", edition, len(words), len(marks), len(roots))
@@ -298,12 +321,25 @@ class Soak:
         if (self.folder / "marked.img").read_bytes() != image_of(edition, all_words, marks, roots):
             self.fault(seed, f"{command}: another image than that of the heap marked by its roots")
 
+    def collected(self, seed):
+        """The command `collect` writes what the roots of the heap reach, slid to the beginning."""
+        edition, words, roots = parts((self.folder / "heap.img").read_bytes())
+        left, marks, moved = slid(edition, words, roots)
+        answer = self.run(seed, "collect", "--workers", str(1 + seed % 5), "heap.img", "left.img")
+        if answer is None:
+            self.fault(seed, "collect: refused")
+        elif answer != f"live {len(left)}\n":
+            self.fault(seed, f"collect: {answer!r} in place of live {len(left)}")
+        elif (self.folder / "left.img").read_bytes() != image_of(edition, left, marks, moved):
+            self.fault(seed, "collect: another image than that of what the roots reach, slid")
+
     def step(self, seed):
         draw = random.Random(seed)
-        image, edition, roots, live, slid = heap(draw)
+        image, edition, roots, live, places = heap(draw)
         self.large = ("--large",) if edition >= 3 else ()
         (self.folder / "heap.img").write_bytes(image)
         self.marked(seed, "mark", "heap.img")
+        self.collected(seed)
         self.elsewhere(seed, random.Random(-seed), image, live)
         workers = draw.choice((1, 2, 3, 4, 8, 64))
         printed = self.run(seed, "compact", "--workers", str(workers), "heap.img", "left.dump")
@@ -327,7 +363,7 @@ class Soak:
             else:
                 self.audited(seed, command, printed, live)
                 if command == "replay" and swept is not None:
-                    self.followed(seed, draw, edition, slid, swept, few, held, printed)
+                    self.followed(seed, draw, edition, places, swept, few, held, printed)
             shown.append(printed)
         if mutators == 1 and shown[0] != shown[1]:
             self.fault(seed, f"one mutator: a replay prints {shown[0]!r}, a race {shown[1]!r}")

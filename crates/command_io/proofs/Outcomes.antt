@@ -12,7 +12,7 @@ use Rattle.command_io.specs.NewImages.{IsOfWritingImage}
 use Rattle.command_io.specs.Pictures.{IsOfDrawing}
 use Rattle.command_io.specs.Printing.{CountsPrint, RefusedUnprinted}
 use Rattle.command_io.specs.declared.refusal.CommandRefusal.{CommandRefusal}
-use Rattle.command_io.specs.declared.refusal.CommandRefusal.TheVariants.{Layout, Mutator, Sweep, Trace, Dump, Audit, Moved, CannotWrite, CannotOpen, CannotCreate, ReadFailed, CannotPrint, NoSuchWord, BadMarks, OutOfMemory, BadRoots}
+use Rattle.command_io.specs.declared.refusal.CommandRefusal.TheVariants.{Layout, Mutator, Sweep, Trace, Dump, Audit, Moved, Survey, CannotWrite, CannotOpen, CannotCreate, ReadFailed, CannotPrint, NoSuchWord, BadMarks, OutOfMemory, BadRoots}
 
 -- a refusal for another cause than the output counts no failed call of the output
 pub uncounted_by : (old new : ℕ) (refusal : CommandRefusal) → new ≡ old → (refusal ≡ CannotPrint → ⊥) → CountsPrint {T = Unit {0}} old new (Err refusal)
@@ -23,6 +23,7 @@ uncounted_by old new (Trace fault) same other = same
 uncounted_by old new (Dump fault) same other = same
 uncounted_by old new (Audit fault) same other = same
 uncounted_by old new (Moved fault) same other = same
+uncounted_by old new (Survey fault) same other = same
 uncounted_by old new (CannotWrite output) same other = same
 uncounted_by old new (CannotOpen input) same other = same
 uncounted_by old new (CannotCreate output) same other = same
@@ -46,6 +47,7 @@ unprinted before (Trace fault) = Keeps-refl before
 unprinted before (Dump fault) = Keeps-refl before
 unprinted before (Audit fault) = Keeps-refl before
 unprinted before (Moved fault) = Keeps-refl before
+unprinted before (Survey fault) = Keeps-refl before
 unprinted before (CannotWrite output) = Keeps-refl before
 unprinted before (CannotOpen input) = Keeps-refl before
 unprinted before (CannotCreate output) = Keeps-refl before
@@ -65,6 +67,7 @@ unmade disk from to (Trace fault) h = h
 unmade disk from to (Dump fault) h = h
 unmade disk from to (Audit fault) h = h
 unmade disk from to (Moved fault) h = h
+unmade disk from to (Survey fault) h = h
 unmade disk from to (CannotWrite output) h = h
 unmade disk from to (CannotOpen input) h = h
 unmade disk from to (CannotCreate output) h = h
@@ -90,6 +93,7 @@ unmade_dump disk path bytes from to (Dump BadField) unkept h = absurd h
 unmade_dump disk path bytes from to (Dump faults.OutOfMemory) unkept h = absurd h
 unmade_dump disk path bytes from to (Audit fault) unkept h = absurd h
 unmade_dump disk path bytes from to (Moved fault) unkept h = absurd h
+unmade_dump disk path bytes from to (Survey fault) unkept h = absurd h
 unmade_dump disk path bytes from to (CannotWrite output) unkept h = absurd h
 unmade_dump disk path bytes from to (CannotOpen input) unkept h = absurd h
 unmade_dump disk path bytes from to (CannotCreate output) unkept h = h.2
@@ -117,6 +121,7 @@ unmade_by disk path bytes from to (Trace fault) unkept h = absurd h
 unmade_by disk path bytes from to (Dump fault) unkept h = absurd h
 unmade_by disk path bytes from to (Audit fault) unkept h = absurd h
 unmade_by disk path bytes from to (Moved fault) unkept h = absurd h
+unmade_by disk path bytes from to (Survey fault) unkept h = absurd h
 unmade_by disk path bytes from to (CannotWrite output) unkept h = absurd h
 unmade_by disk path bytes from to (CannotOpen input) unkept h = absurd h
 unmade_by disk path bytes from to (CannotCreate output) unkept h = h.2
@@ -141,6 +146,7 @@ unmade_map disk path from to (Trace fault) unkept h = absurd h
 unmade_map disk path from to (Dump fault) unkept h = absurd h
 unmade_map disk path from to (Audit fault) unkept h = absurd h
 unmade_map disk path from to (Moved fault) unkept h = absurd h
+unmade_map disk path from to (Survey fault) unkept h = absurd h
 unmade_map disk path from to (CannotWrite output) unkept h = h.1.1.counted
 unmade_map disk path from to (CannotOpen input) unkept h = absurd h
 unmade_map disk path from to (CannotCreate output) unkept h = h.2

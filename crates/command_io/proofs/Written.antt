@@ -1,5 +1,5 @@
 -- What a writer of a dump, of a new image, or of a picture, took.
-use Rattle.std.proofs.Common.{◌≡◌, ◌+◌, ℕ, List, Option, Err, length, inl, inr, refl, sym, subst, ◌∙◌, arith}
+use Rattle.std.proofs.Common.{◌≡◌, ℕ, List, Option, Err, length, inr, sym, subst, ◌∙◌, arith}
 use Rattle.std.proofs.KnownBytes.{Appends-kept}
 use Rattle.std.proofs.lemmas.List.{take_all}
 use Rattle.std.specs.Io.KnownBytes.{Appends, Keeps}
@@ -10,12 +10,10 @@ use Rattle.heap_layout.specs.Writing.{AppendsSome}
 use Rattle.comp_dump.specs.declared.fault.DumpFault.{DumpFault}
 use Rattle.comp_dump.specs.declared.fault.DumpFault.TheVariants as dumps
 use Rattle.command_io.specs.Disk.{AfterCreating, Disk, IsOfCreating, IsUnkept, WritesBeginning, WritesWhole}
-use Rattle.command_io.specs.Dumps.{IsOfDumping}
 use Rattle.command_io.specs.Keeping.{FailsFlush, KeepsAll}
 use Rattle.command_io.specs.declared.refusal.Output.{Output}
-use Rattle.command_io.specs.declared.refusal.Output.TheVariants as outputs
 use Rattle.command_io.specs.declared.refusal.CommandRefusal.{CommandRefusal}
-use Rattle.command_io.specs.declared.refusal.CommandRefusal.TheVariants.{Layout, Mutator, Sweep, Trace, Dump, Audit, Moved, CannotWrite, CannotOpen, CannotCreate, ReadFailed, CannotPrint, NoSuchWord, BadMarks, OutOfMemory, BadRoots}
+use Rattle.command_io.specs.declared.refusal.CommandRefusal.TheVariants.{Layout, Mutator, Sweep, Trace, Dump, Audit, Moved, Survey, CannotWrite, CannotOpen, CannotCreate, ReadFailed, CannotPrint, NoSuchWord, BadMarks, OutOfMemory, BadRoots}
 
 -- if only the flush failed, all bytes were taken
 pub unflushed : (a b c : Option (List ℕ)) (bytes : List ℕ) → Appends a b bytes → Keeps b c → AppendsSome a c bytes
@@ -102,6 +100,7 @@ created disk output path to P barred full (Trace fault) h after = absurd h
 created disk output path to P barred full (Dump fault) h after = absurd h
 created disk output path to P barred full (Audit fault) h after = absurd h
 created disk output path to P barred full (Moved fault) h after = absurd h
+created disk output path to P barred full (Survey fault) h after = absurd h
 created disk output path to P barred full (CannotWrite named) h after = absurd h
 created disk output path to P barred full (CannotOpen input) h after = absurd h
 created disk output path to P barred full (CannotCreate named) h after = subst (λ (o : Output). P (CannotCreate o)) (sym h.0) (barred h.1 after)

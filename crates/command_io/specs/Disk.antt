@@ -60,7 +60,7 @@ IsOfCreating output bars (CannotCreate named) = (named ≡ output) × bars
 IsOfCreating output bars OutOfMemory = Unit {0}
 IsOfCreating output bars _ = ⊥
 
--- whether a refusal names a call that failed of a file: one that opened it, created it, read it or wrote it
+-- whether a refusal names a failed call of a file: one that opens it, creates it, reads it or writes it
 abbrev pub names_failure : CommandRefusal → Bool
 names_failure (CannotOpen input) = true
 names_failure (CannotCreate output) = true
@@ -85,8 +85,8 @@ abbrev pub AfterCreating : {F W : Type 0} → Disk F W → F → Result W Comman
 AfterCreating disk to (Err (CannotCreate _)) = disk.counts 1 to
 AfterCreating disk to _ = disk.begins to
 
--- some writer that the path gives took all these bytes, and no call of it failed; all that it took was kept at the path,
--- and these are the files since
+-- some writer that the path gives took all these bytes, and no call of it failed; all that it took was kept at the
+-- path, and these are the files since
 pub record WritesWhole {F W : Type 0} (disk : Disk F W) (output : Output) (path bytes : List ℕ) (to : F) : Type 0 where
   pub made : W
   pub given : disk.makes output path made
@@ -108,9 +108,9 @@ pub record WritesBeginning {F W : Type 0} (disk : Disk F W) (output : Output) (p
 abbrev pub IsUnkept : {F W : Type 0} → Disk F W → F → F → Type 0
 IsUnkept disk from to = (to ≡ from) ⊎ disk.begins to
 
--- What a refused call that may make a file left of the files: they have counted the failed call that it names. If it names
--- none, they are as they were; but if memory ran out, a file may have been begun, and not kept; and if a call of the output
--- failed, the cause says what was kept.
+-- What a refused call that may make a file left of the files: they have counted the failed call that it names. If it
+-- names none, they are as they were; but if memory ran out, a file may have been begun, and not kept; and if a call of
+-- the output failed, the cause says what was kept.
 abbrev pub RefusedUnmade : {T F W : Type 0} → Disk F W → F → F → Result T CommandRefusal → Type 0
 RefusedUnmade disk from to (Ok _) = Unit {0}
 RefusedUnmade disk from to (Err CannotPrint) = Unit {0}

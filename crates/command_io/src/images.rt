@@ -15,8 +15,8 @@ use std::alloc::Global;
 use std::io::Read;
 
 /// Reads the heap whose image is at a path, of edition three or four only if `large`. Refuses if the file cannot be
-/// opened or read, if the image is refused, with its first fault, and if memory runs out. A refusal for a call of the
-/// file that failed counts it.
+/// opened or read, if the image is refused, with its first fault, and if memory runs out. The files count a failed call
+/// if the refusal names one; else they stay as they were.
 pub fn heap_at<F: Files>(
     alloc: Global,
     files: &mut F,
@@ -52,7 +52,8 @@ fn image_in<S: Read>(
 
 /// Reads the parts of the image at a path, of edition three or four only if `large`. Their heap is not checked: it may
 /// have any fault but `TooLarge`. Refuses if the file cannot be opened or read, if the bytes are no image, if a count
-/// is above its limit, and if memory runs out. A refusal for a call of the file that failed counts it.
+/// is above its limit, and if memory runs out. The files count a failed call if the refusal names one; else they stay as
+/// they were.
 pub fn parts_at<F: Files>(
     alloc: Global,
     files: &mut F,

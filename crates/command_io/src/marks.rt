@@ -15,7 +15,8 @@ use std::alloc::Global;
 use std::io::Read;
 
 /// Reads the marks whose text is at a path. Refuses if the file cannot be opened or read, if a line of it is no mark,
-/// with the number of the first such line, and if memory runs out.
+/// with the number of the first such line, and if memory runs out. The files count a failed call if the refusal names
+/// one; else they stay as they were.
 pub fn marks_at<F: Files>(
     alloc: Global,
     files: &mut F,

@@ -8,6 +8,7 @@ use heap_layout::LayoutFault;
 use moved_heaps::MovedFault;
 use std::alloc::AllocError;
 use std::fmt;
+use stopped_heap::SurveyFault;
 use thiserror::Error;
 
 /// A file that the program reads.
@@ -85,6 +86,9 @@ pub enum CommandRefusal {
     /// No collection of the heap can have left this moved heap.
     #[error(transparent)]
     Moved(MovedFault),
+    /// The heap is not collected: its words and roots have this fault.
+    #[error(transparent)]
+    Survey(SurveyFault),
     /// The file could not be opened.
     #[error("P1 CannotOpen({0})")]
     CannotOpen(Input),
@@ -144,6 +148,14 @@ impl From<DumpFault> for CommandRefusal {
 
     fn from(fault: DumpFault) -> CommandRefusal {
         CommandRefusal::Dump(fault)
+    }
+}
+
+impl From<SurveyFault> for CommandRefusal {
+    ghost from_gives = { λ fault given. given ≡ refusal.Survey fault };
+
+    fn from(fault: SurveyFault) -> CommandRefusal {
+        CommandRefusal::Survey(fault)
     }
 }
 

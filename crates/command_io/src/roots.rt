@@ -16,7 +16,8 @@ use std::alloc::Global;
 use std::io::Read;
 
 /// Reads the roots whose text is at a path, for this number of mutators. Refuses if the file cannot be opened or read,
-/// if a line of it is no root, with the number of the first such line, and if memory runs out.
+/// if a line of it is no root, with the number of the first such line, and if memory runs out. The files count a failed
+/// call if the refusal names one; else they stay as they were.
 pub fn roots_at<F: Files>(
     alloc: Global,
     files: &mut F,

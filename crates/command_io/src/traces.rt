@@ -16,7 +16,8 @@ use std::alloc::Global;
 use std::io::Read;
 
 /// Reads the trace whose text is at a path, for these numbers of mutators and shared roots. Refuses if the file cannot
-/// be opened or read, if its text is no such trace, with its first fault, and if memory runs out.
+/// be opened or read, if its text is no such trace, with its first fault, and if memory runs out. The files count a
+/// failed call if the refusal names one; else they stay as they were.
 pub fn trace_at<F: Files>(
     alloc: Global,
     files: &mut F,

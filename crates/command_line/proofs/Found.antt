@@ -18,15 +18,15 @@ use Rattle.clap.specs.declared.parser.matches.ArgMatches.TheViews.{out-ArgMatche
 use Rattle.clap.specs.declared.parser.matches.Found.{Found}
 use Rattle.clap.specs.Walk.{row_text, with_default}
 use Rattle.clap.proofs.WalkLemmas.{both, first_value-rows, one_text-rows}
-use Rattle.command_line.specs.Asked.{Asks, AsksCompact, AsksHelp, AsksMark, AsksNoCommand, AsksPlan, AsksVersion, AsksWord, HasLawfulCounts, IsAnswerOf}
-use Rattle.command_line.specs.Forms.{Choice, Form, Parameter, audit_form, compact_form, fresh, large, map_form, mark_form, moved_form, mutators, next_form, number, plan_form, race_form, replay_form, run_form, standing, text, word_form, workers}
+use Rattle.command_line.specs.Asked.{Asks, AsksCollect, AsksCompact, AsksHelp, AsksMark, AsksNoCommand, AsksPlan, AsksVersion, AsksWord, HasLawfulCounts, IsAnswerOf}
+use Rattle.command_line.specs.Forms.{Choice, Form, Parameter, audit_form, collect_form, compact_form, fresh, large, map_form, mark_form, moved_form, mutators, next_form, number, plan_form, race_form, replay_form, run_form, standing, text, word_form, workers}
 use Rattle.command_line.specs.Given.{HasOption, HasSwitch, IsChosen, IsCommandWith, IsFlag, IsNumber, IsNumberOr, Takes, Use, is_among, text_given}
 use Rattle.command_line.specs.Finds.{IsRunRequest, IsRunFound}
 use Rattle.command_line.specs.Nexts.{says_reachable}
 use Rattle.command_line.specs.Parser.{program}
 use Rattle.command_line.specs.Runs.{AsksRun, Run}
 use Rattle.command_line.specs.declared.words.Task.{Task}
-use Rattle.command_line.specs.declared.words.Task.TheVariants.{Plan, Word, Replay, Race, Compact, Audit, Next, Mark, Moved, Map, Help, Version}
+use Rattle.command_line.specs.declared.words.Task.TheVariants.{Plan, Word, Replay, Race, Compact, Audit, Next, Mark, Collect, Moved, Map, Help, Version}
 use Rattle.command_line.proofs.Chosen.{HasArgument, among_used, argument_fits, argument_off, first_found, one_found, option_fits, option_off, switch_found}
 use Rattle.command_line.proofs.Firsts.{found_holds}
 use Rattle.command_line.proofs.FormLevel.{IsReadable}
@@ -280,6 +280,29 @@ mark_asked words f asked image new b at_image at_new flag = record {
   with_large = switch_reported words f mark_form asked large refl b flag;
 }
 
+-- ---- `collect`
+
+module _ (words : List (List ℕ)) (f : Found) (asked : CommandAsked words f collect_form) where
+  -- what `--workers` takes was found, if anything
+  pub collectors_fit : IfSome (one_text f (codes "workers")) (Takes workers.takes)
+  collectors_fit = choice_fits words f collect_form asked workers refl
+
+  -- the number that was read is within the bounds
+  pub collectors_within : (n : ℕ) → IsNumberOr 2 (one_text f (codes "workers")) n → (1 ≤ n) × (n ≤ 64)
+  collectors_within n h = within_bounds (one_text f (codes "workers")) 2 1 64 n (omega arith) (omega arith) collectors_fit h
+
+  -- and the words are `collect`, with these paths and this number
+  pub collect_asked : (image new : List ℕ) (n : ℕ) (b : Bool) → Some image ≡ first_value f (codes "IMAGE") → Some new ≡ first_value f (codes "NEW")
+      → IsNumberOr 2 (one_text f (codes "workers")) n → IsFlag (one_text f (codes "large")) b → AsksCollect words image new n b
+  collect_asked image new n b at_image at_new h flag = record {
+    uses = asked.given;
+    is_command = asked.is_command;
+    with_image = argument_reported words f collect_form asked (text (codes "IMAGE")) refl image at_image;
+    with_new = argument_reported words f collect_form asked (text (codes "NEW")) refl new at_new;
+    with_workers = choice_reported words f collect_form asked workers refl n h;
+    with_large = switch_reported words f collect_form asked large refl b flag;
+  }
+
 -- ---- nothing else is found
 
 -- the form that was entered is one of these
@@ -294,8 +317,8 @@ abbrev pub EnteredAs : Entered → Form → Type 0
 EnteredAs o form = (rows : List Row) → o ≡ Some (form.name, rows) → ⊥
 
 pub none_of_standing : (r : Bool) (words : List (List ℕ)) (o : Entered) → All IsUtf8 words → fault_of (program (standing r)) words ≡ [] → subcommand_of (program (standing r)) words ≡ o
-    → EnteredAs o plan_form → EnteredAs o word_form → EnteredAs o replay_form → EnteredAs o race_form → EnteredAs o compact_form → EnteredAs o audit_form → EnteredAs o (next_form r) → EnteredAs o mark_form → EnteredAs o moved_form → EnteredAs o map_form → ⊥
-none_of_standing r words o utf8 taken found plan word replay race compact audit next mark moved mapped = go (entered_one (standing r) (standing_program r) words o utf8 taken found)
+    → EnteredAs o plan_form → EnteredAs o word_form → EnteredAs o replay_form → EnteredAs o race_form → EnteredAs o compact_form → EnteredAs o audit_form → EnteredAs o (next_form r) → EnteredAs o mark_form → EnteredAs o collect_form → EnteredAs o moved_form → EnteredAs o map_form → ⊥
+none_of_standing r words o utf8 taken found plan word replay race compact audit next mark collect moved mapped = go (entered_one (standing r) (standing_program r) words o utf8 taken found)
   where
     go : (form : Form) × (rows : List Row) × IsOneOf (standing r) form × (o ≡ Some (form.name, rows)) → ⊥
     go (form, rows, inl same, is) = plan rows (is ∙ ap (λ (x : Form). Some (x.name, rows)) same)
@@ -306,9 +329,10 @@ none_of_standing r words o utf8 taken found plan word replay race compact audit 
     go (form, rows, inr (inr (inr (inr (inr (inl same))))), is) = audit rows (is ∙ ap (λ (x : Form). Some (x.name, rows)) same)
     go (form, rows, inr (inr (inr (inr (inr (inr (inl same)))))), is) = next rows (is ∙ ap (λ (x : Form). Some (x.name, rows)) same)
     go (form, rows, inr (inr (inr (inr (inr (inr (inr (inl same))))))), is) = mark rows (is ∙ ap (λ (x : Form). Some (x.name, rows)) same)
-    go (form, rows, inr (inr (inr (inr (inr (inr (inr (inr (inl same)))))))), is) = moved rows (is ∙ ap (λ (x : Form). Some (x.name, rows)) same)
-    go (form, rows, inr (inr (inr (inr (inr (inr (inr (inr (inr (inl same))))))))), is) = mapped rows (is ∙ ap (λ (x : Form). Some (x.name, rows)) same)
-    go (form, rows, inr (inr (inr (inr (inr (inr (inr (inr (inr (inr none))))))))), is) = none
+    go (form, rows, inr (inr (inr (inr (inr (inr (inr (inr (inl same)))))))), is) = collect rows (is ∙ ap (λ (x : Form). Some (x.name, rows)) same)
+    go (form, rows, inr (inr (inr (inr (inr (inr (inr (inr (inr (inl same))))))))), is) = moved rows (is ∙ ap (λ (x : Form). Some (x.name, rows)) same)
+    go (form, rows, inr (inr (inr (inr (inr (inr (inr (inr (inr (inr (inl same)))))))))), is) = mapped rows (is ∙ ap (λ (x : Form). Some (x.name, rows)) same)
+    go (form, rows, inr (inr (inr (inr (inr (inr (inr (inr (inr (inr (inr none)))))))))), is) = none
 
 -- ---- what is answered in place of a task
 
@@ -353,6 +377,7 @@ answer_counts error (Ok (Compact image dump n b)) answer = absurd answer
 answer_counts error (Ok (Audit audit)) answer = _
 answer_counts error (Ok (Next next)) answer = absurd answer
 answer_counts error (Ok (Mark image new b)) answer = _
+answer_counts error (Ok (Collect image new n b)) answer = absurd answer
 answer_counts error (Ok (Moved image moved b)) answer = _
 answer_counts error (Ok (Map run)) answer = _
 answer_counts error (Ok (Help text)) answer = _
@@ -378,6 +403,7 @@ module _ (forms : List Form) (is : IsProgram forms) (words : List (List ℕ)) (s
   answer_reported error (Ok (Audit audit)) kind answer = absurd answer
   answer_reported error (Ok (Next next)) kind answer = absurd answer
   answer_reported error (Ok (Mark image new b)) kind answer = absurd answer
+  answer_reported error (Ok (Collect image new n b)) kind answer = absurd answer
   answer_reported error (Ok (Moved image moved b)) kind answer = absurd answer
   answer_reported error (Ok (Map run)) kind answer = absurd answer
   answer_reported error (Ok (Help text)) kind answer = help_asked (among_kinds _ error DisplayHelp kind answer (λ e. cc))

@@ -4,7 +4,7 @@ use Rattle.std.proofs.lemmas.List.Elements.{All-tail}
 use Rattle.clap.specs.Words.{IsAmong, Text, fault_of, subcommand_of}
 use Rattle.clap.specs.declared.error.kind.ErrorKind.TheVariants.{DisplayHelp, DisplayVersion}
 use Rattle.command_line.specs.Asked.{AsksNoCommand, is_help, is_version}
-use Rattle.command_line.specs.Forms.{Form, audit_form, compact_form, map_form, mark_form, moved_form, next_form, plan_form, race_form, replay_form, standing, word_form}
+use Rattle.command_line.specs.Forms.{Form, audit_form, collect_form, compact_form, map_form, mark_form, moved_form, next_form, plan_form, race_form, replay_form, standing, word_form}
 use Rattle.command_line.specs.Given.{IsCommandWith, Use}
 use Rattle.command_line.specs.Nexts.{AsksNext, Next, by_reach, says_reachable}
 use Rattle.command_line.specs.Parser.{program}
@@ -13,7 +13,7 @@ use Rattle.command_line.proofs.FormLevel.{FormTaken, form_help, form_no_version,
 use Rattle.command_line.proofs.Levels.{level, shape}
 use Rattle.command_line.proofs.Reaching.{reachable_said}
 use Rattle.command_line.proofs.Settled.{AreFresh, row}
-use Rattle.command_line.proofs.TopLevel.{BeginWith, Decided, IsCommand, IsProgram, command_first, command_found, first_decides, standing_audit, standing_compact, standing_map, standing_mark, standing_moved, standing_next, standing_plan, standing_race, standing_replay, standing_word}
+use Rattle.command_line.proofs.TopLevel.{BeginWith, Decided, IsCommand, IsProgram, command_first, command_found, first_decides, standing_audit, standing_collect, standing_compact, standing_map, standing_mark, standing_moved, standing_next, standing_plan, standing_race, standing_replay, standing_word}
 use Rattle.command_line.proofs.SwitchRows.{with_switches}
 
 -- ---- words
@@ -88,6 +88,7 @@ pub record HasCommands (forms : List Form) (by_reach : Bool) : Type 0 where
   pub audit : IsCommand forms audit_form
   pub next : IsCommand forms (next_form by_reach)
   pub mark : IsCommand forms mark_form
+  pub collect : IsCommand forms collect_form
   pub moved : IsCommand forms moved_form
   pub map : IsCommand forms map_form
 
@@ -102,6 +103,7 @@ standing_commands r = record {
   audit = standing_audit r;
   next = standing_next r;
   mark = standing_mark r;
+  collect = standing_collect r;
   moved = standing_moved r;
   map = standing_map r;
 }
@@ -153,6 +155,7 @@ module _ (forms : List Form) (program_is : IsProgram forms) (words : List Text) 
     no_audit = λ audit asks. refused_command audit_form has.audit fails asks.uses asks.is_command;
     no_next = λ next asks. refused_command (next_form said) has.next fails asks.uses (next_asked_as said is next asks);
     no_mark = λ image new large asks. refused_command mark_form has.mark fails asks.uses asks.is_command;
+    no_collect = λ image new n large asks. refused_command collect_form has.collect fails asks.uses asks.is_command;
     no_moved = λ image moved large asks. refused_command moved_form has.moved fails asks.uses asks.is_command;
     no_map = λ mapping asks. refused_command map_form has.map fails asks.uses asks.is_command;
   }

@@ -16,7 +16,7 @@ use Rattle.clap.proofs.OnLiterals.{clap_on_literals}
 use Rattle.clap.proofs.WalkLemmas.{walk_stopped}
 use Rattle.command_line.specs.Asked.{is_help, is_version}
 use Rattle.command_line.specs.Given.{is_flag}
-use Rattle.command_line.specs.Forms.{Form, audit_form, compact_form, map_form, mark_form, moved_form, next_form, plan_form, race_form, replay_form, standing, word_form}
+use Rattle.command_line.specs.Forms.{Form, audit_form, collect_form, compact_form, map_form, mark_form, moved_form, next_form, plan_form, race_form, replay_form, standing, word_form}
 use Rattle.command_line.specs.Parser.{program}
 use Rattle.std.proofs.lemmas.Bool.{eqb-true}
 use Rattle.command_line.proofs.Lexed.{IsBundle, IsLong, flag_read}
@@ -137,6 +137,9 @@ next_readable false = record { distinct = refl; apart = refl; clear = refl; flag
 mark_readable : IsReadable mark_form
 mark_readable = record { distinct = refl; apart = refl; clear = refl; flags = record { options = refl; switches = refl; apart = refl }; few = omega arith }
 
+collect_readable : IsReadable collect_form
+collect_readable = record { distinct = refl; apart = refl; clear = refl; flags = record { options = refl; switches = refl; apart = refl }; few = omega arith }
+
 moved_readable : IsReadable moved_form
 moved_readable = record { distinct = refl; apart = refl; clear = refl; flags = record { options = refl; switches = refl; apart = refl }; few = omega arith }
 
@@ -169,6 +172,9 @@ standing_next by_reach = record { is_one = refl; is_met = refl; is_entered = ref
 pub standing_mark : (by_reach : Bool) → IsCommand (standing by_reach) mark_form
 standing_mark by_reach = record { is_one = refl; is_met = refl; is_entered = refl; is_not_help = refl; is_readable = mark_readable }
 
+pub standing_collect : (by_reach : Bool) → IsCommand (standing by_reach) collect_form
+standing_collect by_reach = record { is_one = refl; is_met = refl; is_entered = refl; is_not_help = refl; is_readable = collect_readable }
+
 pub standing_moved : (by_reach : Bool) → IsCommand (standing by_reach) moved_form
 standing_moved by_reach = record { is_one = refl; is_met = refl; is_entered = refl; is_not_help = refl; is_readable = moved_readable }
 
@@ -194,7 +200,7 @@ standing_free false = refl
 
 -- the same for words with `--reachable` and for others
 all_stand : (by_reach : Bool) → AreCommands (standing by_reach) (standing by_reach)
-all_stand r = (standing_plan r, (standing_word r, (standing_replay r, (standing_race r, (standing_compact r, (standing_audit r, (standing_next r, (standing_mark r, (standing_moved r, (standing_map r, tt))))))))))
+all_stand r = (standing_plan r, (standing_word r, (standing_replay r, (standing_race r, (standing_compact r, (standing_audit r, (standing_next r, (standing_mark r, (standing_collect r, (standing_moved r, (standing_map r, tt)))))))))))
 
 pub standing_program : (by_reach : Bool) → IsProgram (standing by_reach)
 standing_program by_reach = record {

@@ -4,13 +4,13 @@ use Rattle.std.specs.List.{Any}
 use Rattle.std.specs.Str.{bytes_eq}
 use Rattle.clap.specs.declared.error.kind.ErrorKind.{ErrorKind}
 use Rattle.clap.specs.declared.error.kind.ErrorKind.TheVariants.{DisplayHelp, DisplayVersion}
-use Rattle.command_line.specs.Forms.{audit_form, compact_form, mark_form, moved_form, plan_form, word_form, workers}
+use Rattle.command_line.specs.Forms.{audit_form, collect_form, compact_form, mark_form, moved_form, plan_form, word_form, workers}
 use Rattle.command_line.specs.Given.{IsChosen, IsCommandWith, IsNumber, Use, is_among, text_given}
 use Rattle.command_line.specs.Maps.{AsksMap, Mapping, map_of}
 use Rattle.command_line.specs.Nexts.{AsksNext, IsLawfulNext, Next, next_of}
 use Rattle.command_line.specs.Runs.{AsksRun, Audit, IsLawfulRun, Run, audit_of, run_of}
 use Rattle.command_line.specs.declared.words.Task.{Task}
-use Rattle.command_line.specs.declared.words.Task.TheVariants.{Plan, Word, Replay, Race, Compact, Mark, Moved, Help, Version}
+use Rattle.command_line.specs.declared.words.Task.TheVariants.{Plan, Word, Replay, Race, Compact, Mark, Collect, Moved, Help, Version}
 use Rattle.command_line.specs.declared.words.Task.TheVariants as tasks
 
 -- the words are `plan [--large] IMAGE`, with this path of an image, and with the switch or without it
@@ -69,6 +69,16 @@ pub record AsksMark (words : List (List ℕ)) (image new : List ℕ) (is_large :
   pub with_new : text_given (codes "NEW") uses ≡ Some new
   pub with_large : is_large ≡ is_among (codes "large") uses
 
+-- the words are `collect [--workers N] [--large] IMAGE NEW`, with these paths of an image and of the new image, and this
+-- number of workers, and with the switch or without it
+pub record AsksCollect (words : List (List ℕ)) (image new : List ℕ) (n : ℕ) (is_large : Bool) : Type 0 where
+  pub uses : List Use
+  pub is_command : IsCommandWith collect_form words uses
+  pub with_image : text_given (codes "IMAGE") uses ≡ Some image
+  pub with_new : text_given (codes "NEW") uses ≡ Some new
+  pub with_workers : IsChosen workers uses n
+  pub with_large : is_large ≡ is_among (codes "large") uses
+
 -- the words are `moved [--large] IMAGE MOVED`, with these paths of an image and of a moved heap, and with the switch or
 -- without it
 pub record AsksMoved (words : List (List ℕ)) (image moved : List ℕ) (is_large : Bool) : Type 0 where
@@ -88,6 +98,7 @@ pub record AsksNoCommand (words : List (List ℕ)) : Type 0 where
   pub no_audit : (audit : Audit) → ¬ (AsksAudit words audit)
   pub no_next : (next : Next) → ¬ (AsksNext words next)
   pub no_mark : (image new : List ℕ) (is_large : Bool) → ¬ (AsksMark words image new is_large)
+  pub no_collect : (image new : List ℕ) (n : ℕ) (is_large : Bool) → ¬ (AsksCollect words image new n is_large)
   pub no_moved : (image moved : List ℕ) (is_large : Bool) → ¬ (AsksMoved words image moved is_large)
   pub no_map : (mapping : Mapping) → ¬ (AsksMap words mapping)
 
@@ -117,6 +128,7 @@ Asks words (Compact image dump n is_large) = AsksCompact words image.now dump.no
 Asks words (tasks.Audit audit) = AsksAudit words (audit_of audit)
 Asks words (tasks.Next next) = AsksNext words (next_of next)
 Asks words (Mark image new is_large) = AsksMark words image.now new.now is_large
+Asks words (Collect image new n is_large) = AsksCollect words image.now new.now n is_large
 Asks words (Moved image moved is_large) = AsksMoved words image.now moved.now is_large
 Asks words (tasks.Map run) = AsksMap words (map_of run)
 Asks words (Help text) = AsksHelp words
@@ -132,6 +144,7 @@ HasLawfulCounts (Compact image dump n is_large) = (1 ≤ n) × (n ≤ 64)
 HasLawfulCounts (tasks.Audit audit) = Unit {0}
 HasLawfulCounts (tasks.Next next) = IsLawfulNext (next_of next)
 HasLawfulCounts (Mark image new is_large) = Unit {0}
+HasLawfulCounts (Collect image new n is_large) = (1 ≤ n) × (n ≤ 64)
 HasLawfulCounts (Moved image moved is_large) = Unit {0}
 HasLawfulCounts (tasks.Map run) = Unit {0}
 HasLawfulCounts (Help text) = Unit {0}
@@ -147,6 +160,7 @@ IsAnswerOf kind (Compact image dump n is_large) = ⊥
 IsAnswerOf kind (tasks.Audit audit) = ⊥
 IsAnswerOf kind (tasks.Next next) = ⊥
 IsAnswerOf kind (Mark image new is_large) = ⊥
+IsAnswerOf kind (Collect image new n is_large) = ⊥
 IsAnswerOf kind (Moved image moved is_large) = ⊥
 IsAnswerOf kind (tasks.Map run) = ⊥
 IsAnswerOf kind (Help text) = kind ≡ DisplayHelp

@@ -137,6 +137,15 @@ next_form by_reach = record { name = codes "next"; options = next_options by_rea
 abbrev pub mark_form : Form
 mark_form = record { name = codes "mark"; options = []; switches = large ∷ []; arguments = text (codes "IMAGE") ∷ text (codes "NEW") ∷ [] }
 
+-- `collect [--workers N] [--large] IMAGE NEW`
+abbrev pub collect_form : Form
+collect_form = record {
+  name = codes "collect";
+  options = workers ∷ [];
+  switches = large ∷ [];
+  arguments = text (codes "IMAGE") ∷ text (codes "NEW") ∷ [];
+}
+
 -- `moved [--large] IMAGE MOVED`
 abbrev pub moved_form : Form
 moved_form = record { name = codes "moved"; options = []; switches = large ∷ []; arguments = text (codes "IMAGE") ∷ text (codes "MOVED") ∷ [] }
@@ -152,4 +161,5 @@ map_form = record { name = codes "map"; options = dumped ∷ []; switches = larg
 -- the commands of the program, for words with `--reachable` and for others
 abbrev pub standing : Bool → List Form
 standing by_reach =
-    plan_form ∷ word_form ∷ replay_form ∷ race_form ∷ compact_form ∷ audit_form ∷ next_form by_reach ∷ mark_form ∷ moved_form ∷ map_form ∷ []
+    plan_form ∷ word_form ∷ replay_form ∷ race_form ∷ compact_form ∷ audit_form ∷ next_form by_reach ∷ mark_form ∷ collect_form ∷ moved_form
+    ∷ map_form ∷ []

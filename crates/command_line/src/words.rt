@@ -4,7 +4,7 @@ ghost use Rattle.std.specs.String.{string_bytes};
 ghost use Rattle.clap.specs.Words.{app_of, fault_of, found_of, kind_of, subcommand_of, subcommand_rows_of, with_subcommand, App};
 ghost use Rattle.clap.specs.declared.error.kind.ErrorKind.TheVariants.{DisplayHelp, DisplayVersion, OutOfMemory};
 ghost use Rattle.command_line.specs.Asked.{Asks, AsksNoCommand, HasLawfulCounts, IsAnswerOf};
-ghost use Rattle.command_line.specs.Forms.{compact_form, mark_form, moved_form, plan_form, race_form, replay_form, run_form, standing, word_form};
+ghost use Rattle.command_line.specs.Forms.{collect_form, compact_form, mark_form, moved_form, plan_form, race_form, replay_form, run_form, standing, word_form};
 ghost use Rattle.command_line.specs.Finds.{IsRunRequest, IsRunFound};
 ghost use Rattle.command_line.specs.Nexts.{says_reachable};
 ghost use Rattle.command_line.specs.Parser.{bare_program, command as command_of, program};
@@ -61,6 +61,14 @@ pub enum Task<'a> {
     Mark {
         image: &'a str,
         new: &'a str,
+        /// Whether heaps of editions three and four are read as well.
+        large: bool,
+    },
+    /// Collect the heap in an image by its roots, with 1 to 64 workers, and write the new image to a path.
+    Collect {
+        image: &'a str,
+        new: &'a str,
+        workers: u8,
         /// Whether heaps of editions three and four are read as well.
         large: bool,
     },
@@ -157,6 +165,16 @@ fn task_of<'a>(words: &'a [String], matches: &ArgMatches<'a>, reaches: bool) -> 
             new: text_of(found, "NEW"),
             large: is_large(found),
         },
+        "collect" => {
+            let new = text_of(found, "NEW");
+            let workers = count_of(found, "workers", DEFAULT_WORKERS) as u8;
+            Task::Collect {
+                image: text_of(found, "IMAGE"),
+                new,
+                workers,
+                large: is_large(found),
+            }
+        }
         "moved" => Task::Moved {
             image: text_of(found, "IMAGE"),
             moved: text_of(found, "MOVED"),
@@ -211,7 +229,8 @@ fn command<'a>(alloc: Global, reaches: bool) -> Made<'a>
     let auditing = with_command(compacting, audit_command(alloc));
     let running = with_command(auditing, next_command(alloc, reaches));
     let marking = with_command(running, mark_command(alloc));
-    let judging = with_command(marking, moved_command(alloc));
+    let collecting = with_command(marking, collect_command(alloc));
+    let judging = with_command(collecting, moved_command(alloc));
     with_command(judging, map_command(alloc))
 }
 
@@ -320,6 +339,21 @@ fn mark_command<'a>(alloc: Global) -> Made<'a>
         "Marks the objects that the roots reach, and writes the new image",
     );
     let of_switch = with_argument(mark, large_switch(alloc));
+    let of_image = with_argument(of_switch, image_argument(alloc));
+    with_argument(of_image, new_argument(alloc))
+}
+
+// The command `collect`, as defined for clap.
+fn collect_command<'a>(alloc: Global) -> Made<'a>
+    ensures { IfOk result (λ made. app_of made ≡ command_of collect_form) }
+{
+    let collect = named_command(
+        alloc,
+        "collect",
+        "Collects a heap at rest by its roots, and writes the new image",
+    );
+    let of_workers = with_argument(collect, workers_option(alloc));
+    let of_switch = with_argument(of_workers, large_switch(alloc));
     let of_image = with_argument(of_switch, image_argument(alloc));
     with_argument(of_image, new_argument(alloc))
 }

@@ -1,5 +1,5 @@
 -- The dump of a swept heap, and what was written and printed of it.
-use Rattle.std.proofs.Common.{◌≡◌, ℕ, Bool, List, Option, Result, Ok, Err, IfErr, OnErr, map, codes, refl, sym, subst, ◌∙◌}
+use Rattle.std.proofs.Common.{◌≡◌, ℕ, Bool, List, Option, Result, Err, IfErr, OnErr, map, codes, refl, subst, ◌∙◌}
 use Rattle.std.specs.Io.KnownBytes.{Appends}
 use Rattle.heap_layout.specs.Heap.{Heap, live}
 use Rattle.heap_layout.specs.Writing.{AppendsSome}
@@ -20,7 +20,7 @@ use Rattle.command_io.specs.declared.refusal.Input.TheVariants.{Image}
 use Rattle.command_io.specs.declared.refusal.Input.TheVariants as inputs
 use Rattle.command_io.specs.declared.refusal.Output.TheVariants as outputs
 use Rattle.command_io.specs.declared.refusal.CommandRefusal.{CommandRefusal}
-use Rattle.command_io.specs.declared.refusal.CommandRefusal.TheVariants.{Layout, Mutator, Sweep, Trace, Dump, Audit, Moved, CannotWrite, CannotOpen, CannotCreate, ReadFailed, CannotPrint, NoSuchWord, BadMarks, OutOfMemory, BadRoots}
+use Rattle.command_io.specs.declared.refusal.CommandRefusal.TheVariants.{Layout, Mutator, Sweep, Trace, Dump, Audit, Moved, Survey, CannotWrite, CannotOpen, CannotCreate, ReadFailed, CannotPrint, NoSuchWord, BadMarks, OutOfMemory, BadRoots}
 use Rattle.command_io.proofs.Begun.{failed_by}
 use Rattle.command_io.proofs.Imaged.{of_image}
 use Rattle.command_io.proofs.Outcomes.{same_parts, uncounted_by}
@@ -65,6 +65,7 @@ module _ {F W : Type 0} (disk : Disk F W) (large : Bool) (image path : List ℕ)
   of_sweep (Dump fault) h = absurd h.2
   of_sweep (Audit fault) h = absurd h.2
   of_sweep (Moved fault) h = absurd h.2
+  of_sweep (Survey fault) h = absurd h.2
   of_sweep (CannotWrite output) h = absurd h.2
   of_sweep (CannotOpen Image) h = h
   of_sweep (CannotOpen inputs.Trace) h = absurd h.2
@@ -95,6 +96,7 @@ module _ {F W : Type 0} (disk : Disk F W) (large : Bool) (image path : List ℕ)
     of_dumping (Dump Device) h = (swept.0, swept.1, of_image large (IsSweptHeap workers f) (BeginsDump disk path workers to) swept.0 (λ heap s. begins workers f dump parts heap s disk path to h) swept.2)
     of_dumping (Audit fault) h = absurd h
     of_dumping (Moved fault) h = absurd h
+    of_dumping (Survey fault) h = absurd h
     of_dumping (CannotWrite output) h = absurd h
     of_dumping (CannotOpen input) h = absurd h
     of_dumping (CannotCreate output) h = (swept.0, swept.1, (h.0, h.1, h.2, of_image large (IsSweptHeap workers f) (WasSwept workers) swept.0 (λ heap s. (f, s)) swept.2))

@@ -19,7 +19,7 @@ use Rattle.command_io.specs.Disk.{Disk}
 use Rattle.command_io.specs.Images.{IsHeapAt}
 use Rattle.command_io.specs.Printing.{named, RefusedUnprinted}
 use Rattle.command_io.specs.declared.refusal.CommandRefusal.{CommandRefusal}
-use Rattle.command_io.specs.declared.refusal.CommandRefusal.TheVariants.{Audit, BadMarks, BadRoots, CannotCreate, CannotOpen, CannotPrint, Dump, Layout, CannotWrite, Moved, Mutator, NoSuchWord, OutOfMemory, ReadFailed, Sweep, Trace}
+use Rattle.command_io.specs.declared.refusal.CommandRefusal.TheVariants.{Audit, BadMarks, BadRoots, CannotCreate, CannotOpen, CannotPrint, Dump, Layout, CannotWrite, Moved, Survey, Mutator, NoSuchWord, OutOfMemory, ReadFailed, Sweep, Trace}
 use Rattle.commands.specs.Audits.{compared_lines, counts_lines, explained_lines, faults_by, found_lines, passed_lines, IsBegun, IsCompared, IsDumpAt, IsExplained, IsFound, Passes, PrintsCompared, RefusedUnexplained, RefusesAudit, RefusesCompared, SomeAudit}
 use Rattle.commands.specs.Replays.{StopsUnprinted}
 use Rattle.commands.specs.declared.explained.Compared.{Compared}
@@ -109,6 +109,7 @@ module _ {F W : Type 0} (disk : Disk F W) (asked : runs.Audit) (explained : aske
   compared_refused (Trace fault) found cause = absurd cause
   compared_refused (Dump fault) found cause = absurd cause
   compared_refused (Moved fault) found cause = absurd cause
+  compared_refused (Survey fault) found cause = absurd cause
   compared_refused (CannotWrite output) found cause = absurd cause
   compared_refused (CannotOpen input) found cause = absurd cause
   compared_refused (CannotCreate output) found cause = absurd cause
@@ -134,6 +135,7 @@ module _ {F W : Type 0} (disk : Disk F W) (asked : runs.Audit) (explained : aske
   compared_leaves (Trace fault) found cause = absurd cause
   compared_leaves (Dump fault) found cause = absurd cause
   compared_leaves (Moved fault) found cause = absurd cause
+  compared_leaves (Survey fault) found cause = absurd cause
   compared_leaves (CannotWrite output) found cause = absurd cause
   compared_leaves (CannotOpen input) found cause = absurd cause
   compared_leaves (CannotCreate output) found cause = absurd cause
@@ -176,6 +178,7 @@ module _ {F W : Type 0} (disk : Disk F W) (asked : runs.Audit) (before after : O
   unprinted (Trace traces.OutOfMemory) h = h
   unprinted (Dump fault) h = h
   unprinted (Moved fault) h = h
+  unprinted (Survey fault) h = h
   unprinted (CannotWrite output) h = h
   unprinted (CannotOpen input) h = h
   unprinted (CannotCreate output) h = h
@@ -195,6 +198,7 @@ module _ {F W : Type 0} (disk : Disk F W) (asked : runs.Audit) (before after : O
   plain_leaves plain (Trace fault) h = h
   plain_leaves plain (Dump fault) h = h
   plain_leaves plain (Moved fault) h = h
+  plain_leaves plain (Survey fault) h = h
   plain_leaves plain (CannotWrite output) h = h
   plain_leaves plain (CannotOpen input) h = h
   plain_leaves plain (CannotCreate output) h = h

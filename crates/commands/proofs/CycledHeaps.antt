@@ -11,7 +11,7 @@ use Rattle.comp_trace.specs.RootsNamed.{word_named, words_named}
 use Rattle.comp_trace.specs.declared.steps.shown.Shown.{Shown}
 use Rattle.comp_trace.specs.declared.text.line.Line.{Line}
 use Rattle.command_io.specs.declared.refusal.CommandRefusal.{CommandRefusal}
-use Rattle.command_io.specs.declared.refusal.CommandRefusal.TheVariants.{Layout, Mutator, Sweep, Trace, Dump, Audit, Moved, CannotWrite, CannotOpen, CannotCreate, ReadFailed, CannotPrint, NoSuchWord, BadMarks, OutOfMemory, BadRoots}
+use Rattle.command_io.specs.declared.refusal.CommandRefusal.TheVariants.{Layout, Mutator, Sweep, Trace, Dump, Audit, Moved, Survey, CannotWrite, CannotOpen, CannotCreate, ReadFailed, CannotPrint, NoSuchWord, BadMarks, OutOfMemory, BadRoots}
 use Rattle.commands.specs.Outcomes.{IsHaltedBy}
 use Rattle.commands.proofs.ReplayRuns.{cut_by}
 use Rattle.commands.specs.Replays.{IsPrintedHalt}
@@ -55,6 +55,7 @@ module _ (mutators fresh : ℕ) (lines : List Line) (given : Given) (heap : Heap
   uncycled values f run shown none (Dump fault) h = absurd h
   uncycled values f run shown none (Audit fault) h = absurd h
   uncycled values f run shown none (Moved fault) h = absurd h
+  uncycled values f run shown none (Survey fault) h = absurd h
   uncycled values f run shown none (CannotWrite output) h = absurd h
   uncycled values f run shown none (CannotOpen input) h = absurd h
   uncycled values f run shown none (CannotCreate output) h = absurd h
@@ -80,6 +81,7 @@ module _ (mutators fresh : ℕ) (lines : List Line) (given : Given) (heap : Heap
   halted_run shown (Dump fault) h = absurd h
   halted_run shown (Audit fault) h = absurd h
   halted_run shown (Moved fault) h = absurd h
+  halted_run shown (Survey fault) h = absurd h
   halted_run shown (CannotWrite output) h = absurd h
   halted_run shown (CannotOpen input) h = absurd h
   halted_run shown (CannotCreate output) h = absurd h
@@ -99,6 +101,7 @@ module _ (mutators fresh : ℕ) (lines : List Line) (given : Given) (heap : Heap
   halted_cycle shown (Dump fault) h = absurd h
   halted_cycle shown (Audit fault) h = absurd h
   halted_cycle shown (Moved fault) h = absurd h
+  halted_cycle shown (Survey fault) h = absurd h
   halted_cycle shown (CannotWrite output) h = absurd h
   halted_cycle shown (CannotOpen input) h = absurd h
   halted_cycle shown (CannotCreate output) h = absurd h

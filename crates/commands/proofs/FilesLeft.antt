@@ -2,6 +2,7 @@
 use Rattle.std.proofs.Common.{◌≡◌, ℕ, Bool, false, List, Option, Result, Ok, Err, OnErr, IfErr, inl, inr, refl, subst, sym, ◌∙◌}
 use Rattle.std.specs.Bool.{MatchBool}
 use Rattle.heap_layout.specs.Heap.{Heap}
+use Rattle.heap_layout.specs.declared.edition.Edition.{Edition}
 use Rattle.heap_layout.specs.declared.fault.LayoutFault.TheVariants as layouts
 use Rattle.comp_dump.specs.declared.fault.DumpFault.TheVariants as dumps
 use Rattle.comp_trace.specs.declared.replays.running.Halt.{Halt}
@@ -13,8 +14,9 @@ use Rattle.command_io.specs.Disk.{names_failure, Disk, LeavesCounted, LeavesRead
 use Rattle.command_io.specs.declared.refusal.Input.{Input}
 use Rattle.command_io.specs.declared.refusal.Output.{Output}
 use Rattle.command_io.specs.declared.refusal.CommandRefusal.{CommandRefusal}
-use Rattle.command_io.specs.declared.refusal.CommandRefusal.TheVariants.{Layout, Mutator, Sweep, Trace, Dump, Audit, Moved, CannotWrite, CannotOpen, CannotCreate, ReadFailed, CannotPrint, NoSuchWord, BadMarks, OutOfMemory, BadRoots}
+use Rattle.command_io.specs.declared.refusal.CommandRefusal.TheVariants.{Layout, Mutator, Sweep, Trace, Dump, Audit, Moved, Survey, CannotWrite, CannotOpen, CannotCreate, ReadFailed, CannotPrint, NoSuchWord, BadMarks, OutOfMemory, BadRoots}
 use Rattle.command_io.proofs.Outcomes.{unmade}
+use Rattle.commands.specs.Collecting.{IsUncollectable}
 use Rattle.commands.specs.Compact.{IsOfSweeping}
 use Rattle.commands.specs.Moving.{refusal_of}
 use Rattle.commands.specs.Outcomes as outcomes
@@ -36,6 +38,7 @@ none_named P opened created read written image dump (Dump dumps.Device) h = absu
 none_named P opened created read written image dump (Dump _) h = refl
 none_named P opened created read written image dump (Audit fault) h = refl
 none_named P opened created read written image dump (Moved fault) h = refl
+none_named P opened created read written image dump (Survey fault) h = refl
 none_named P opened created read written image dump (CannotWrite output) h = absurd (written output h)
 none_named P opened created read written image dump (CannotOpen input) h = absurd (opened input h)
 none_named P opened created read written image dump (CannotCreate output) h = absurd (created output h)
@@ -49,6 +52,10 @@ none_named P opened created read written image dump OutOfMemory h = refl
 -- so of a heap that was not swept
 pub unswept_unnamed : (heap : Heap) (refusal : CommandRefusal) → IsOfSweeping heap refusal → names_failure refusal ≡ false
 unswept_unnamed heap = none_named (IsOfSweeping heap) (λ _ h. h) (λ _ h. h) (λ _ h. h) (λ _ h. h) (λ h. h) (λ h. h)
+
+-- of a heap that is not collected
+pub uncollected_unnamed : (edition : Edition) (words roots : List ℕ) (refusal : CommandRefusal) → IsUncollectable edition words roots refusal → names_failure refusal ≡ false
+uncollected_unnamed edition words roots = none_named (IsUncollectable edition words roots) (λ _ h. h) (λ _ h. h) (λ _ h. h) (λ _ h. h) (λ h. h) (λ h. h)
 
 -- of memory that ran out
 pub memory_unnamed : (refusal : CommandRefusal) → refusal ≡ OutOfMemory → names_failure refusal ≡ false

@@ -23,7 +23,7 @@ use Rattle.reachability.specs.Reachable.{RefusesFor}
 use Rattle.reachable_cycles.specs.NextRoots.{IsRefusedNext, IsRefusedWith}
 use Rattle.command_io.specs.Disk.{names_failure}
 use Rattle.command_io.specs.declared.refusal.CommandRefusal.{CommandRefusal}
-use Rattle.command_io.specs.declared.refusal.CommandRefusal.TheVariants.{Layout, Mutator, Sweep, Trace, Dump, Audit, Moved, CannotWrite, CannotOpen, CannotCreate, ReadFailed, CannotPrint, NoSuchWord, BadMarks, BadRoots}
+use Rattle.command_io.specs.declared.refusal.CommandRefusal.TheVariants.{Layout, Mutator, Sweep, Trace, Dump, Audit, Moved, Survey, CannotWrite, CannotOpen, CannotCreate, ReadFailed, CannotPrint, NoSuchWord, BadMarks, BadRoots}
 use Rattle.command_io.specs.declared.refusal.CommandRefusal.TheVariants as refusals
 use Rattle.comp_trace.specs.declared.text.line.Line.{Line}
 use Rattle.comp_trace.specs.declared.steps.shown.Shown.{Shown}
@@ -189,6 +189,7 @@ cycle_unnamed mutators fresh lines shown given heap (Trace fault) h = refl
 cycle_unnamed mutators fresh lines shown given heap (Dump fault) h = absurd h
 cycle_unnamed mutators fresh lines shown given heap (Audit fault) h = refl
 cycle_unnamed mutators fresh lines shown given heap (Moved fault) h = refl
+cycle_unnamed mutators fresh lines shown given heap (Survey fault) h = refl
 cycle_unnamed mutators fresh lines shown given heap (CannotWrite output) h = absurd h
 cycle_unnamed mutators fresh lines shown given heap (CannotOpen input) h = absurd h
 cycle_unnamed mutators fresh lines shown given heap (CannotCreate output) h = absurd h
@@ -208,6 +209,7 @@ unmarked_unnamed parts (Trace fault) h = refl
 unmarked_unnamed parts (Dump fault) h = absurd h
 unmarked_unnamed parts (Audit fault) h = refl
 unmarked_unnamed parts (Moved fault) h = refl
+unmarked_unnamed parts (Survey fault) h = refl
 unmarked_unnamed parts (CannotWrite output) h = absurd h
 unmarked_unnamed parts (CannotOpen input) h = absurd h
 unmarked_unnamed parts (CannotCreate output) h = absurd h

@@ -7,7 +7,7 @@ use Rattle.comp_trace.specs.declared.text.fault.TraceFault.TheVariants.{BadLine,
 use Rattle.comp_trace.specs.declared.text.fault.TraceFault.TheVariants as traces
 use Rattle.command_io.specs.Printing.{CountsPrint, LeavesFlushed, RefusedUnprinted}
 use Rattle.command_io.specs.declared.refusal.CommandRefusal.{CommandRefusal}
-use Rattle.command_io.specs.declared.refusal.CommandRefusal.TheVariants.{Layout, Mutator, Sweep, Trace, Dump, Audit, Moved, CannotWrite, CannotOpen, CannotCreate, ReadFailed, CannotPrint, NoSuchWord, BadMarks, OutOfMemory, BadRoots}
+use Rattle.command_io.specs.declared.refusal.CommandRefusal.TheVariants.{Layout, Mutator, Sweep, Trace, Dump, Audit, Moved, Survey, CannotWrite, CannotOpen, CannotCreate, ReadFailed, CannotPrint, NoSuchWord, BadMarks, OutOfMemory, BadRoots}
 use Rattle.command_io.proofs.Outcomes.{unprinted}
 use Rattle.commands.specs.Leaving.{LeavesOutput}
 use Rattle.commands.specs.Replays.{StopsUnprinted}
@@ -29,6 +29,7 @@ keeps_more before after (Trace traces.OutOfMemory) h = h
 keeps_more before after (Dump fault) h = h
 keeps_more before after (Audit fault) h = tt
 keeps_more before after (Moved fault) h = h
+keeps_more before after (Survey fault) h = h
 keeps_more before after (CannotWrite output) h = h
 keeps_more before after (CannotOpen input) h = h
 keeps_more before after (CannotCreate output) h = h

@@ -10,7 +10,7 @@ use Rattle.command_io.specs.Images.{RefusesAt, RefusesImage, SomeHeapAt, SomeHea
 use Rattle.command_io.specs.Pictures.{DrawsWhole, IsOfDrawing}
 use Rattle.command_io.specs.Printing.{CountsPrint}
 use Rattle.command_io.specs.declared.refusal.CommandRefusal.{CommandRefusal}
-use Rattle.command_io.specs.declared.refusal.CommandRefusal.TheVariants.{Layout, Mutator, Sweep, Trace, Dump, Audit, Moved, CannotWrite, CannotOpen, CannotCreate, ReadFailed, CannotPrint, NoSuchWord, BadMarks, OutOfMemory, BadRoots}
+use Rattle.command_io.specs.declared.refusal.CommandRefusal.TheVariants.{Layout, Mutator, Sweep, Trace, Dump, Audit, Moved, Survey, CannotWrite, CannotOpen, CannotCreate, ReadFailed, CannotPrint, NoSuchWord, BadMarks, OutOfMemory, BadRoots}
 use Rattle.command_io.proofs.Begun.{failed_by}
 use Rattle.command_io.proofs.Imaged.{of_image}
 use Rattle.command_io.proofs.Outcomes.{uncounted_by}
@@ -30,6 +30,7 @@ writing_map disk path to before after heap (Trace fault) h = h
 writing_map disk path to before after heap (Dump fault) h = h
 writing_map disk path to before after heap (Audit fault) h = h
 writing_map disk path to before after heap (Moved fault) h = h
+writing_map disk path to before after heap (Survey fault) h = h
 writing_map disk path to before after heap (CannotWrite output) h = h
 writing_map disk path to before after heap (CannotOpen input) h = h
 writing_map disk path to before after heap (CannotCreate output) h = h

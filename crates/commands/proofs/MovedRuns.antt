@@ -4,7 +4,7 @@ use Rattle.std.proofs.KnownBytes.{Appends-kept}
 use Rattle.std.specs.Io.KnownBytes.{Appends, Keeps}
 use Rattle.heap_layout.specs.Heap.{Heap}
 use Rattle.heap_layout.specs.Writing.{AppendsSome}
-use Rattle.moved_heaps.specs.Moved.{Moved, IsLawful}
+use Rattle.moved_heaps.specs.Moved.{Moved}
 use Rattle.moved_heaps.specs.MovedFaults.{IsFirstFault}
 use Rattle.moved_heaps.specs.declared.fault.MovedFault.{MovedFault}
 use Rattle.moved_heaps.specs.declared.fault.MovedFault.TheVariants.{WrongHead, PlaceOutside, Overlap, WrongRoot, WrongWord, OutOfMemory}

@@ -16,7 +16,7 @@ use Rattle.command_io.specs.NewImages.{IsOfWritingImage}
 use Rattle.command_io.specs.Printing.{CountsPrint}
 use Rattle.command_io.specs.declared.refusal.Output.TheVariants as outputs
 use Rattle.command_io.specs.declared.refusal.CommandRefusal.{CommandRefusal}
-use Rattle.command_io.specs.declared.refusal.CommandRefusal.TheVariants.{Layout, Mutator, Sweep, Trace, Dump, Audit, Moved, CannotWrite, CannotOpen, CannotCreate, ReadFailed, CannotPrint, NoSuchWord, BadMarks, OutOfMemory, BadRoots}
+use Rattle.command_io.specs.declared.refusal.CommandRefusal.TheVariants.{Layout, Mutator, Sweep, Trace, Dump, Audit, Moved, Survey, CannotWrite, CannotOpen, CannotCreate, ReadFailed, CannotPrint, NoSuchWord, BadMarks, OutOfMemory, BadRoots}
 use Rattle.command_io.proofs.Begun.{failed_by}
 use Rattle.command_io.proofs.Outcomes.{uncounted_by}
 use Rattle.command_io.proofs.Written.{unflushed}
@@ -49,6 +49,7 @@ writing_image disk path bytes to before after lines (Trace fault) h = h
 writing_image disk path bytes to before after lines (Dump fault) h = h
 writing_image disk path bytes to before after lines (Audit fault) h = h
 writing_image disk path bytes to before after lines (Moved fault) h = h
+writing_image disk path bytes to before after lines (Survey fault) h = h
 writing_image disk path bytes to before after lines (CannotWrite output) h = h
 writing_image disk path bytes to before after lines (CannotOpen input) h = h
 writing_image disk path bytes to before after lines (CannotCreate output) h = h

@@ -1,5 +1,5 @@
 -- What a command answers by the heap of an image, from what its parts answer by this heap.
-use Rattle.std.proofs.Common.{◌≡◌, ℕ, Bool, ◌*◌, ◌≤◌, List, Option, Result, Ok, Err, IfErr, OnErr, OnOk, subst, sym}
+use Rattle.std.proofs.Common.{◌≡◌, ℕ, Bool, ◌*◌, ◌≤◌, List, Option, Result, Ok, Err, IfErr, OnErr, OnOk}
 use Rattle.std.specs.Io.KnownBytes.{Appends}
 use Rattle.heap_layout.specs.Heap.{Heap, live}
 use Rattle.heap_layout.specs.Writing.{AppendsSome}
@@ -9,7 +9,7 @@ use Rattle.command_io.specs.Images.{IsHeapAt, RefusesAt, SomeHeapAt}
 use Rattle.command_io.specs.Printing.{line_of}
 use Rattle.command_io.specs.declared.refusal.Input.TheVariants as inputs
 use Rattle.command_io.specs.declared.refusal.CommandRefusal.{CommandRefusal}
-use Rattle.command_io.specs.declared.refusal.CommandRefusal.TheVariants.{Layout, Mutator, Sweep, Trace, Dump, Audit, Moved, CannotWrite, CannotOpen, CannotCreate, ReadFailed, CannotPrint, NoSuchWord, BadMarks, OutOfMemory, BadRoots}
+use Rattle.command_io.specs.declared.refusal.CommandRefusal.TheVariants.{Layout, Mutator, Sweep, Trace, Dump, Audit, Moved, Survey, CannotWrite, CannotOpen, CannotCreate, ReadFailed, CannotPrint, NoSuchWord, BadMarks, OutOfMemory, BadRoots}
 use Rattle.command_io.proofs.Begun.{failed_by}
 use Rattle.command_io.proofs.Imaged.{at_heap}
 use Rattle.commands.specs.Compact.{IsOfSweeping, RefusesSweep}
@@ -27,6 +27,7 @@ module _ {F W : Type 0} (disk : Disk F W) (large : Bool) (path : List ℕ) where
     of_plan before after (Dump fault) h = absurd h
     of_plan before after (Audit fault) h = absurd h
     of_plan before after (Moved fault) h = absurd h
+    of_plan before after (Survey fault) h = absurd h
     of_plan before after (CannotWrite output) h = absurd h
     of_plan before after (CannotOpen input) h = absurd h
     of_plan before after (CannotCreate output) h = absurd h
@@ -46,6 +47,7 @@ module _ {F W : Type 0} (disk : Disk F W) (large : Bool) (path : List ℕ) where
     of_past index (Dump fault) h = absurd h
     of_past index (Audit fault) h = absurd h
     of_past index (Moved fault) h = absurd h
+    of_past index (Survey fault) h = absurd h
     of_past index (CannotWrite output) h = absurd h
     of_past index (CannotOpen input) h = absurd h
     of_past index (CannotCreate output) h = absurd h
@@ -67,6 +69,7 @@ module _ {F W : Type 0} (disk : Disk F W) (large : Bool) (path : List ℕ) where
     of_sweeping (Dump fault) h = absurd h
     of_sweeping (Audit fault) h = absurd h
     of_sweeping (Moved fault) h = absurd h
+    of_sweeping (Survey fault) h = absurd h
     of_sweeping (CannotWrite output) h = absurd h
     of_sweeping (CannotOpen input) h = absurd h
     of_sweeping (CannotCreate output) h = absurd h
@@ -87,6 +90,7 @@ module _ {F W : Type 0} (disk : Disk F W) (large : Bool) (path : List ℕ) where
     of_word (Dump fault) h = absurd h.2
     of_word (Audit fault) h = absurd h.2
     of_word (Moved fault) h = absurd h.2
+    of_word (Survey fault) h = absurd h.2
     of_word (CannotWrite output) h = absurd h.2
     of_word (CannotOpen inputs.Image) h = h
     of_word (CannotOpen inputs.Trace) h = absurd h.2

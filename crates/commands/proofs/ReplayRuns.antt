@@ -30,7 +30,7 @@ use Rattle.commands.specs.Replays.{dumped_of, lines_of_run, replaying, run_lines
 use Rattle.command_io.specs.Texts.{HasLinesAt, RefusesTextAt}
 use Rattle.command_io.specs.declared.refusal.Output.TheVariants as outputs
 use Rattle.command_io.specs.declared.refusal.CommandRefusal.{CommandRefusal}
-use Rattle.command_io.specs.declared.refusal.CommandRefusal.TheVariants.{Layout, Mutator, Sweep, Trace, Dump, Audit, Moved, CannotWrite, CannotOpen, CannotCreate, ReadFailed, CannotPrint, NoSuchWord, BadMarks, OutOfMemory, BadRoots}
+use Rattle.command_io.specs.declared.refusal.CommandRefusal.TheVariants.{Layout, Mutator, Sweep, Trace, Dump, Audit, Moved, Survey, CannotWrite, CannotOpen, CannotCreate, ReadFailed, CannotPrint, NoSuchWord, BadMarks, OutOfMemory, BadRoots}
 use Rattle.command_io.proofs.Begun.{failed_by}
 use Rattle.command_io.proofs.Written.{unflushed}
 use Rattle.command_io.proofs.Outcomes.{same_parts, uncounted_by}
@@ -103,6 +103,7 @@ unprinted_halt before (Trace fault) = unprinted_trace before fault
 unprinted_halt before (Dump fault) = Keeps-refl before
 unprinted_halt before (Audit fault) = tt
 unprinted_halt before (Moved fault) = Keeps-refl before
+unprinted_halt before (Survey fault) = Keeps-refl before
 unprinted_halt before (CannotWrite output) = Keeps-refl before
 unprinted_halt before (CannotOpen input) = Keeps-refl before
 unprinted_halt before (CannotCreate output) = Keeps-refl before
@@ -161,6 +162,7 @@ halt_unprinted before after shown printed (Trace traces.OutOfMemory) h = none_pr
 halt_unprinted before after shown printed (Dump fault) h = none_printed before after shown h printed
 halt_unprinted before after shown printed (Audit fault) h = tt
 halt_unprinted before after shown printed (Moved fault) h = none_printed before after shown h printed
+halt_unprinted before after shown printed (Survey fault) h = none_printed before after shown h printed
 halt_unprinted before after shown printed (CannotWrite output) h = none_printed before after shown h printed
 halt_unprinted before after shown printed (CannotOpen input) h = none_printed before after shown h printed
 halt_unprinted before after shown printed (CannotCreate output) h = none_printed before after shown h printed
@@ -192,6 +194,7 @@ writing_of disk path bytes to before after lines (Trace fault) h = h
 writing_of disk path bytes to before after lines (Dump fault) h = h
 writing_of disk path bytes to before after lines (Audit fault) h = h
 writing_of disk path bytes to before after lines (Moved fault) h = h
+writing_of disk path bytes to before after lines (Survey fault) h = h
 writing_of disk path bytes to before after lines (CannotWrite output) h = h
 writing_of disk path bytes to before after lines (CannotOpen input) h = h
 writing_of disk path bytes to before after lines (CannotCreate output) h = h

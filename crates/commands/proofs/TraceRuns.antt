@@ -20,7 +20,7 @@ use Rattle.command_io.specs.Texts.{HasLines, HasLinesAt, RefusesText, RefusesTex
 use Rattle.command_io.specs.declared.refusal.Input.TheVariants as inputs
 use Rattle.command_io.specs.declared.refusal.Output.TheVariants as outputs
 use Rattle.command_io.specs.declared.refusal.CommandRefusal.{CommandRefusal}
-use Rattle.command_io.specs.declared.refusal.CommandRefusal.TheVariants.{Layout, Mutator, Sweep, Trace, Dump, Audit, Moved, CannotWrite, CannotOpen, CannotCreate, ReadFailed, CannotPrint, NoSuchWord, BadMarks, OutOfMemory, BadRoots}
+use Rattle.command_io.specs.declared.refusal.CommandRefusal.TheVariants.{Layout, Mutator, Sweep, Trace, Dump, Audit, Moved, Survey, CannotWrite, CannotOpen, CannotCreate, ReadFailed, CannotPrint, NoSuchWord, BadMarks, OutOfMemory, BadRoots}
 use Rattle.command_io.proofs.Imaged.{of_heap}
 use Rattle.commands.specs.Outcomes.{printed_of, refusal_of, IsHaltedBy, IsWritten, RefusesInputs, RefusesOutcome}
 use Rattle.commands.specs.Replays.{dumped_of, run_lines, shown_lines, IsHaltedRun, IsOfWritingRun, PrintsRun, RefusesRun, RefusesTrace, RefusesTraced, SomeRun, StopsRun, Way}
@@ -62,6 +62,7 @@ module _ {F W : Type 0} (way : Way) (disk : Disk F W) (asked : TraceRun) (from t
   of_image (Dump fault) h = absurd h.2
   of_image (Audit fault) h = absurd h.2
   of_image (Moved fault) h = absurd h.2
+  of_image (Survey fault) h = absurd h.2
   of_image (CannotWrite output) h = absurd h.2
   of_image (CannotOpen inputs.Image) h = h
   of_image (CannotOpen inputs.Trace) h = absurd h.2
@@ -87,6 +88,7 @@ module _ {F W : Type 0} (way : Way) (disk : Disk F W) (asked : TraceRun) (from t
     by_trace kept (Dump fault) h = absurd h.2
     by_trace kept (Audit fault) h = absurd h.2
     by_trace kept (Moved fault) h = absurd h.2
+    by_trace kept (Survey fault) h = absurd h.2
     by_trace kept (CannotWrite output) h = absurd h.2
     by_trace kept (CannotOpen inputs.Image) h = absurd h.2
     by_trace kept (CannotOpen inputs.Trace) h = (h, some_heap disk asked heap image)
@@ -122,6 +124,7 @@ module _ {F W : Type 0} (way : Way) (disk : Disk F W) (asked : TraceRun) (from t
       of_halt shown printed (Dump fault) h = absurd h
       of_halt shown printed (Audit fault) h = absurd h
       of_halt shown printed (Moved fault) h = absurd h
+      of_halt shown printed (Survey fault) h = absurd h
       of_halt shown printed (CannotWrite output) h = absurd h
       of_halt shown printed (CannotOpen input) h = absurd h
       of_halt shown printed (CannotCreate output) h = absurd h
@@ -150,6 +153,7 @@ module _ {F W : Type 0} (way : Way) (disk : Disk F W) (asked : TraceRun) (from t
       of_writing left (Dump Device) w = by_run (Dump Device) (left, w)
       of_writing left (Audit fault) w = absurd w
       of_writing left (Moved fault) w = absurd w
+      of_writing left (Survey fault) w = absurd w
       of_writing left (CannotWrite output) w = absurd w
       of_writing left (CannotOpen input) w = absurd w
       of_writing left (CannotCreate output) w = by_run (CannotCreate output) (w.0, w.1, w.2, left)
@@ -201,6 +205,7 @@ halted_by cuts lines heap shown cut (Trace fault) h = cut fault h
 halted_by cuts lines heap shown cut (Dump fault) h = absurd h
 halted_by cuts lines heap shown cut (Audit fault) h = absurd h
 halted_by cuts lines heap shown cut (Moved fault) h = absurd h
+halted_by cuts lines heap shown cut (Survey fault) h = absurd h
 halted_by cuts lines heap shown cut (CannotWrite output) h = absurd h
 halted_by cuts lines heap shown cut (CannotOpen input) h = absurd h
 halted_by cuts lines heap shown cut (CannotCreate output) h = absurd h

@@ -17,9 +17,9 @@ use Rattle.commands.specs.declared.running.Unanswered.TheVariants.{Misused, Refu
 abbrev pub DoesAsked : {F W : Type 0} → Disk F W → F → Option (List ℕ) → Option (List ℕ) → List (List ℕ) → Type 0
 DoesAsked disk to before after words = (task : Task) × Asks words task × DoesTask disk to before after task
 
--- What a refusal left. If it is `CannotPrint`, one more call of the output failed. Else none did, and no file was kept; the
--- files have counted one more failed call if the refusal names one. The output is as it was, unless a line of a trace was
--- refused, or a dump has a fault: then the cause says what was printed.
+-- What a refusal left. If it is `CannotPrint`, one more call of the output failed. Else none did, and no file was kept;
+-- the files have counted one more failed call if the refusal names one. The output is as it was, unless a line of a
+-- trace was refused, or a dump has a fault: then the cause says what was printed.
 pub record HasLeft {F W : Type 0} (disk : Disk F W) (from to : F) (old new : ℕ) (before after : Option (List ℕ)) (refusal : CommandRefusal) : Type 0 where
   pub files : RefusedUnmade {T = Unit {0}} disk from to (Err refusal)
   pub calls : CountsPrint {T = Unit {0}} old new (Err refusal)

@@ -45,7 +45,7 @@ abbrev pub IsOfWritingMap : {F W : Type 0} → Disk F W → List ℕ → F → O
 IsOfWritingMap disk path to before after heap CannotPrint = DrawsWhole disk path to × BeginsLive before after heap
 IsOfWritingMap disk path to before after heap refusal = IsOfDrawing disk path to refusal
 
--- why the command is refused: there is nothing to draw, and the files stayed as they were, but for a failed call that the
--- refusal names; or there is, and the picture was not written, or its line not printed
+-- why the command is refused: there is nothing to draw, and the files stayed as they were, but for a failed call that
+-- the refusal names; or there is, and the picture was not written, or its line not printed
 abbrev pub RefusesMap : {F W : Type 0} → Disk F W → Mapping → F → F → Option (List ℕ) → Option (List ℕ) → CommandRefusal → Type 0
 RefusesMap disk asked from to before after refusal = (LeavesCounted disk from to refusal × FailsMap disk asked refusal) ⊎ SomeMap disk asked (λ heap. IsOfWritingMap disk asked.out to before after heap refusal)

@@ -47,8 +47,8 @@ IsUnmarkable parts _ = ⊥
 abbrev pub RefusesMarking : {F W : Type 0} → Disk F W → Bool → List ℕ → CommandRefusal → Type 0
 RefusesMarking disk large image refusal = RefusesAt disk large image RefusesImageParts refusal ⊎ SomePartsAt disk large image (λ parts. IsUnmarkable parts refusal)
 
--- why the command is refused: there is no marked heap, and the files stayed as they were, but for a failed call that the
--- refusal names; or there is, and it was not written, or its line not printed
+-- why the command is refused: there is no marked heap, and the files stayed as they were, but for a failed call that
+-- the refusal names; or there is, and it was not written, or its line not printed
 abbrev pub RefusesMark : {F W : Type 0} → Disk F W → Bool → List ℕ → List ℕ → F → F → Option (List ℕ) → Option (List ℕ) → CommandRefusal → Type 0
 RefusesMark disk large image new from to before after refusal =
     (LeavesCounted disk from to refusal × RefusesMarking disk large image refusal)

@@ -27,7 +27,8 @@ use std::thread::Threads;
 ///
 /// With `run.explain` it prints before that how many of the pages are built and how many entries they have, and of a
 /// fault what is wrong where. Without it, a refusal other than `CannotPrint` prints nothing, and with it a refusal
-/// other than `Audit` and `CannotPrint`. Fewer than `u64::MAX` calls of the output must have failed before.
+/// other than `Audit` and `CannotPrint`. The files count a failed call if the refusal names one; else they stay as they
+/// were. Fewer than `u64::MAX` calls of the output must have failed before.
 pub fn print_audit<F: Files, O: Write>(
     alloc: Global,
     rt: &(impl Threads + Sync),
@@ -126,7 +127,8 @@ pub struct Audited {
     pub dump: Dump<'static>,
 }
 
-/// Reads the heap of an image, and then what is audited. A refusal for a call of a file that failed counts it.
+/// Reads the heap of an image, and then what is audited. The files count a failed call if the refusal names one; else
+/// they stay as they were.
 pub(crate) fn audited_at<F: Files>(
     alloc: Global,
     files: &mut F,

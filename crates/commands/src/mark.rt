@@ -71,8 +71,8 @@ fn mark_by_roots(alloc: Global, parts: ImageParts) -> Result<MarkedHeap, Command
     Ok(heap)
 }
 
-// Writes the image of a heap, and prints its live words.
-fn write_marked<F: Files, O: Write>(
+/// Writes the image of a heap, and prints its live words.
+pub(crate) fn write_marked<F: Files, O: Write>(
     files: &mut F,
     path: &str,
     heap: &MarkedHeap,

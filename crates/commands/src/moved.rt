@@ -19,8 +19,8 @@ use std::io::{Read, Write};
 /// Judges the moved heap at `moved` against the heap image at `image`, which is read first. Both are of edition three
 /// or four only if `large`. If a collection may have left it, prints `ok` and the words of the objects that moved, and
 /// then `objects` and how many these are; else the refusal is its first fault (`Moved`), but `OutOfMemory` if memory
-/// ran out. A refusal other than `CannotPrint` prints nothing. Fewer than `u64::MAX` calls of the output must have
-/// failed before.
+/// ran out. A refusal other than `CannotPrint` prints nothing. The files count a failed call if the refusal names one;
+/// else they stay as they were. Fewer than `u64::MAX` calls of the output must have failed before.
 pub fn print_moved<F: Files, O: Write>(
     alloc: Global,
     files: &mut F,

@@ -19,7 +19,8 @@ use std::thread::Threads;
 
 /// Prints the plan of the heap whose image is at a path, of edition three or four only if `large`, a line each for: the
 /// live words, the pages, the first object of each page, and the address of each root after the flip. A refusal other
-/// than `CannotPrint` prints nothing. Fewer than `u64::MAX` calls of the output must have failed before.
+/// than `CannotPrint` prints nothing. The files count a failed call if the refusal names one; else they stay as they
+/// were. Fewer than `u64::MAX` calls of the output must have failed before.
 pub fn print_plan<F: Files, O: Write>(
     alloc: Global,
     rt: &(impl Threads + Sync),

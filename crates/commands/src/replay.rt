@@ -70,7 +70,7 @@ pub struct Inputs {
 }
 
 /// Reads the heap whose image is at a path, of edition three or four only if `large`, and then the trace for it at
-/// another path.
+/// another path. The files count a failed call if the refusal names one; else they stay as they were.
 pub fn inputs_at<F: Files>(
     alloc: Global,
     files: &mut F,

@@ -14,6 +14,7 @@ ghost use Rattle.commands.specs.declared.running.Unanswered.TheVariants.{Misused
 ghost use Rattle.commands.specs.Leaving.{LeavesOutput};
 
 use crate::audit::print_audit;
+use crate::collect::print_collect;
 use crate::compact::print_compact;
 use crate::mapping::print_map;
 use crate::mark::print_mark;
@@ -177,6 +178,12 @@ fn print_task<R: Threads + Wait + Sync, F: Files, O: Write>(
         Task::Audit(run) => print_audit(alloc, rt, files, run, out),
         Task::Next(run) => print_next(alloc, rt, files, run, out),
         Task::Mark { image, new, large } => print_mark(alloc, files, image, new, large, out),
+        Task::Collect {
+            image,
+            new,
+            workers,
+            large,
+        } => print_collect(alloc, rt, files, image, new, workers, large, out),
         Task::Moved {
             image,
             moved,

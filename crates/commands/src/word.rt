@@ -16,8 +16,8 @@ use std::thread::Threads;
 
 /// Prints the slid word at an index, of the heap whose image is at a path, of edition three or four only if `large`:
 /// its decimal digits and a line feed. After the last live word it is 0; an index after the last page is refused
-/// (`NoSuchWord`). A refusal other than `CannotPrint` prints nothing. Fewer than `u64::MAX` calls of the output must
-/// have failed before.
+/// (`NoSuchWord`). A refusal other than `CannotPrint` prints nothing. The files count a failed call if the refusal
+/// names one; else they stay as they were. Fewer than `u64::MAX` calls of the output must have failed before.
 pub fn print_word<F: Files, O: Write>(
     alloc: Global,
     rt: &(impl Threads + Sync),

@@ -7,7 +7,7 @@ use Rattle.command_io.specs.Memory.{memory_disk, WrittenIsThere}
 use Rattle.command_io.specs.declared.memory.MemoryFiles.{MemoryFiles}
 use Rattle.command_io.specs.declared.refusal.Output.TheVariants as outputs
 use Rattle.command_io.specs.declared.refusal.CommandRefusal.{CommandRefusal}
-use Rattle.command_io.specs.declared.refusal.CommandRefusal.TheVariants.{Layout, CannotWrite, Mutator, Sweep, Trace, Dump, Audit, Moved, CannotOpen, CannotCreate, ReadFailed, CannotPrint, NoSuchWord, BadMarks, OutOfMemory, BadRoots}
+use Rattle.command_io.specs.declared.refusal.CommandRefusal.TheVariants.{Layout, CannotWrite, Mutator, Sweep, Trace, Dump, Audit, Moved, Survey, CannotOpen, CannotCreate, ReadFailed, CannotPrint, NoSuchWord, BadMarks, OutOfMemory, BadRoots}
 use Rattle.commands.specs.Races.{Races, RefusesRace}
 use Rattle.commands.specs.Replays.{Replays, RefusesReplay, SomeRun}
 use Rattle.proved_clients.specs.Kept.{KeepsRaced, KeepsReplayed, KeptOrNot}
@@ -35,6 +35,7 @@ unchanged from to (Err (Trace fault)) h = λ other. same_counted from to (Trace 
 unchanged from to (Err (Dump fault)) h = λ other. same_counted from to (Dump fault) h
 unchanged from to (Err (Audit fault)) h = λ other. same_counted from to (Audit fault) h
 unchanged from to (Err (Moved fault)) h = λ other. same_counted from to (Moved fault) h
+unchanged from to (Err (Survey fault)) h = λ other. same_counted from to (Survey fault) h
 unchanged from to (Err (CannotWrite output)) h = λ other. same_counted from to (CannotWrite output) h
 unchanged from to (Err (CannotOpen input)) h = λ other. same_counted from to (CannotOpen input) h
 unchanged from to (Err (CannotCreate output)) h = λ other. same_counted from to (CannotCreate output) h

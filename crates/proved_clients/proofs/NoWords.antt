@@ -16,10 +16,11 @@ unanswered before after (inr (inr (inr (inr (inl compact))))) = not_empty compac
 unanswered before after (inr (inr (inr (inr (inr (inl audit)))))) = not_empty audit.1.is_command.begin
 unanswered before after (inr (inr (inr (inr (inr (inr (inl next))))))) = not_empty next.1.is_command.begin
 unanswered before after (inr (inr (inr (inr (inr (inr (inr (inl mark)))))))) = not_empty mark.3.is_command.begin
-unanswered before after (inr (inr (inr (inr (inr (inr (inr (inr (inl moved))))))))) = not_empty moved.3.is_command.begin
-unanswered before after (inr (inr (inr (inr (inr (inr (inr (inr (inr (inl mapped)))))))))) = not_empty mapped.1.is_command.begin
-unanswered before after (inr (inr (inr (inr (inr (inr (inr (inr (inr (inr (inl help))))))))))) = omega (arith, help.0.1.2)
-unanswered before after (inr (inr (inr (inr (inr (inr (inr (inr (inr (inr (inr version))))))))))) = not_empty version.0.1.2
+unanswered before after (inr (inr (inr (inr (inr (inr (inr (inr (inl collect))))))))) = not_empty collect.4.is_command.begin
+unanswered before after (inr (inr (inr (inr (inr (inr (inr (inr (inr (inl moved)))))))))) = not_empty moved.3.is_command.begin
+unanswered before after (inr (inr (inr (inr (inr (inr (inr (inr (inr (inr (inl mapped))))))))))) = not_empty mapped.1.is_command.begin
+unanswered before after (inr (inr (inr (inr (inr (inr (inr (inr (inr (inr (inr (inl help)))))))))))) = omega (arith, help.0.1.2)
+unanswered before after (inr (inr (inr (inr (inr (inr (inr (inr (inr (inr (inr (inr version)))))))))))) = not_empty version.0.1.2
 
 -- nor is it to a list of words that is empty
 pub unanswered_if_empty : (words : List (List ℕ)) (before after : Option (List ℕ)) → words ≡ [] → HasAnswered words before after → ⊥

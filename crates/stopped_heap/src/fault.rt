@@ -5,30 +5,30 @@ use thiserror::Error;
 #[derive(Clone, Copy, Debug, PartialEq, Eq, Error)]
 pub enum SurveyFault {
     /// There are more words or roots than the edition allows.
-    #[error("there are too many words or roots")]
+    #[error("S1 TooLarge")]
     TooLarge,
     /// The root with this number is neither null nor the address of one of the words, nor an immediate.
-    #[error("root {0} leads nowhere")]
+    #[error("S2 BadRoot({0})")]
     BadRoot(u64),
     /// The word at this index is a reference of a reached object, and neither null nor the address of one of the words,
     /// nor an immediate.
-    #[error("the reference at {0} leads nowhere")]
+    #[error("S3 BadReference({0})")]
     BadReference(u64),
     /// The word at this index is a weak word of a reached object, and neither null nor the address of one of the words,
     /// nor an immediate.
-    #[error("the weak word at {0} leads nowhere")]
+    #[error("S4 BadWeak({0})")]
     BadWeak(u64),
     /// The object at this index is reached, and has more words than the edition allows.
-    #[error("the object at {0} is too long")]
+    #[error("S5 ObjectTooLong({0})")]
     ObjectTooLong(u64),
     /// The object at this index is reached, and ends past the words.
-    #[error("the object at {0} ends past the words")]
+    #[error("S6 ObjectPastEnd({0})")]
     ObjectPastEnd(u64),
     /// The object at this index is reached, and so is another one that has a word with it.
-    #[error("the object at {0} overlaps another one")]
+    #[error("S7 Overlap({0})")]
     Overlap(u64),
     /// An allocation failed. No other fault was met before, and there are not too many words or roots.
-    #[error("out of memory")]
+    #[error("S8 OutOfMemory")]
     OutOfMemory,
 }
 

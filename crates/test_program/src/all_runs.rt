@@ -2,9 +2,9 @@
 use crate::narrow_outputs::{LINES, REFUSED, REMOVED, WRITTEN, expect_lines, expect_refused};
 use crate::taken_steps::take_steps;
 use crate::{
-    audit_runs, edition_four_runs, edition_three_runs, edition_two_runs, map_runs, mark_runs,
-    moved_runs, next_runs, race_runs, reachable_runs, replay_runs, whole_and_words_audits,
-    word_plan_and_compact_runs,
+    audit_runs, collect_runs, edition_four_runs, edition_three_runs, edition_two_runs, map_runs,
+    mark_runs, moved_runs, next_runs, race_runs, reachable_runs, replay_runs,
+    whole_and_words_audits, word_plan_and_compact_runs,
 };
 use std::rt::Files;
 use std::sync::Wait;
@@ -14,7 +14,7 @@ use test_support::Step;
 
 // All tables. The last one writes the files that `LINES` read. As a constant they would cost the proof of the test five
 // times as much.
-fn tables() -> [&'static [Step]; 34] {
+fn tables() -> [&'static [Step]; 38] {
     [
         word_plan_and_compact_runs::RUNS,
         audit_runs::PASSED,
@@ -37,6 +37,10 @@ fn tables() -> [&'static [Step]; 34] {
         mark_runs::MARKED,
         mark_runs::EDITIONS,
         mark_runs::REFUSED,
+        collect_runs::COLLECTED,
+        collect_runs::NO_ROWS,
+        collect_runs::EDITIONS,
+        collect_runs::REFUSED,
         moved_runs::LAWFUL,
         moved_runs::UNLAWFUL,
         moved_runs::REFUSED,

@@ -58,7 +58,7 @@ fn expect_tasks(rt: &(impl Abort + AllocGlobal), asked: &[AskedTask]) {
 }
 
 // Lines and the tasks that they ask for.
-static TASKS: [AskedTask; 54] = [
+static TASKS: [AskedTask; 58] = [
     (
         "plan three.img",
         "Plan { image: \"three.img\", large: false }",
@@ -221,6 +221,22 @@ static TASKS: [AskedTask; 54] = [
         "Mark { image: \"mark\", new: \"--\", large: false }",
     ),
     (
+        "collect three.img new.img",
+        "Collect { image: \"three.img\", new: \"new.img\", workers: 2, large: false }",
+    ),
+    (
+        "collect --workers 64 a --large b",
+        "Collect { image: \"a\", new: \"b\", workers: 64, large: true }",
+    ),
+    (
+        "collect a b --workers=1",
+        "Collect { image: \"a\", new: \"b\", workers: 1, large: false }",
+    ),
+    (
+        "collect -- collect --workers",
+        "Collect { image: \"collect\", new: \"--workers\", workers: 2, large: false }",
+    ),
+    (
         "moved three.img three.moved",
         "Moved { image: \"three.img\", moved: \"three.moved\", large: false }",
     ),
@@ -280,7 +296,7 @@ fn words_ask_for_these_tasks(rt: HostRuntime) {
 }
 
 // Lines that ask for help.
-static HELPS: [&str; 22] = [
+static HELPS: [&str; 24] = [
     "--help",
     "-h",
     "-hx",
@@ -298,6 +314,8 @@ static HELPS: [&str; 22] = [
     "audit a --help",
     "help mark",
     "mark a -h",
+    "help collect",
+    "collect a -h",
     "help moved",
     "moved a -h",
     "help map",

@@ -11,6 +11,8 @@ mod audit_runs;
 #[cfg(test)]
 mod begun_runs;
 #[cfg(test)]
+mod collect_runs;
+#[cfg(test)]
 mod edition_four_runs;
 #[cfg(test)]
 mod edition_three_runs;

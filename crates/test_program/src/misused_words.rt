@@ -2,7 +2,7 @@
 use crate::asked_tasks::{Answer, expect_lines};
 
 // Lines that are no command.
-static NO_COMMANDS: [&str; 94] = [
+static NO_COMMANDS: [&str; 102] = [
     "plan --large",
     "plan --large --large a",
     "audit --large=1 a b",
@@ -70,6 +70,14 @@ static NO_COMMANDS: [&str; 94] = [
     "mark --large --large a b",
     "mark a b --mutators 1",
     "mark a -b",
+    "collect",
+    "collect a",
+    "collect a b c",
+    "collect --workers 0 a b",
+    "collect --workers 65 a b",
+    "collect --mutators 2 a b",
+    "collect --reachable a b",
+    "collect a -b",
     "moved",
     "moved a",
     "moved a b c",

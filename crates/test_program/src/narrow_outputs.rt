@@ -60,7 +60,7 @@ fn expect_cut_off<R: Files + AllocGlobal + Threads + Wait + Sync>(
 }
 
 /// Lines, and the least number of bytes that they print.
-pub const LINES: [(&str, usize); 12] = [
+pub const LINES: [(&str, usize); 13] = [
     ("word print.tests.img 2", 12),
     ("plan print.tests.img", 48),
     (
@@ -80,6 +80,7 @@ pub const LINES: [(&str, usize); 12] = [
         7,
     ),
     ("mark print.tests.img print.tests.marked", 7),
+    ("collect print.tests.img print.tests.collected", 7),
     ("--help", 1),
     ("--version", 17),
 ];
@@ -147,12 +148,14 @@ pub const REMOVED: &[Step] = &[
     Step::Length("print.tests.out", 573),
     Step::Length("print.tests.new", 552),
     Step::Holds("print.tests.marked", Content::ThreeImage),
+    Step::Holds("print.tests.collected", Content::CollectedImage),
     Step::Remove("print.tests.img"),
     Step::Remove("print.tests.trace"),
     Step::Remove("print.tests.lines"),
     Step::Remove("print.tests.marks"),
     Step::Remove("print.tests.new"),
     Step::Remove("print.tests.marked"),
+    Step::Remove("print.tests.collected"),
     Step::Remove("print.tests.dump"),
     Step::Remove("print.tests.fault"),
     Step::Remove("print.tests.halted"),

@@ -2,9 +2,10 @@
 //! it.
 use crate::changes::{Change, VERSION, WEAK_WORD, make_change};
 use crate::images::{
-    BAD_ROOT_IMAGE, EMPTY_IMAGE, FRESH_DUMP, IMMEDIATES_DUMP, IMMEDIATES_IMAGE, LARGE_WORDS,
-    LONGER_WORDS, MARKED_IMAGE, MOVED, THREE_IMAGE, THREE_WORDS, TWENTY_IMAGE, UNBUILT_DUMP,
-    WEAK_DUMP, WEAK_IMAGE, WEAK_MOVED, WEAK_SWEPT_DUMP,
+    BAD_ROOT_IMAGE, COLLECTED_IMAGE, COLLECTED_IMMEDIATES_IMAGE, COLLECTED_WEAK_IMAGE, EMPTY_IMAGE,
+    FILLED_IMAGE, FRESH_DUMP, IMMEDIATES_DUMP, IMMEDIATES_IMAGE, LARGE_WORDS, LONGER_WORDS,
+    MARKED_IMAGE, MOVED, THREE_IMAGE, THREE_WORDS, TWENTY_IMAGE, UNBUILT_DUMP, WEAK_DUMP,
+    WEAK_IMAGE, WEAK_MOVED, WEAK_SWEPT_DUMP,
 };
 use crate::parts::{Part, bytes_of};
 use std::alloc::{AllocError, Global};
@@ -58,6 +59,14 @@ pub enum Content {
     ImmediatesTrace,
     /// The dump after that run.
     ImmediatesDump,
+    /// What a collection leaves of the three objects.
+    CollectedImage,
+    /// What it leaves of those of edition two.
+    CollectedWeakImage,
+    /// What it leaves of those of edition four.
+    CollectedImmediatesImage,
+    /// The next heap of the three objects after an empty run without fresh pages.
+    FilledImage,
     /// What a collection left that moved the three objects backwards, with two changes.
     ForgedMoved(Change, Change),
     /// What a collection left that moved the three objects of edition two backwards, with two changes.
@@ -124,6 +133,10 @@ pub fn bytes_in(alloc: Global, content: Content) -> Result<Vec<u8>, AllocError> 
         }
         Content::ImmediatesTrace => IMMEDIATES_TRACE.to_vec(alloc),
         Content::ImmediatesDump => bytes_of(alloc, &IMMEDIATES_DUMP),
+        Content::CollectedImage => bytes_of(alloc, &COLLECTED_IMAGE),
+        Content::CollectedWeakImage => bytes_of(alloc, &COLLECTED_WEAK_IMAGE),
+        Content::CollectedImmediatesImage => bytes_of(alloc, &COLLECTED_IMMEDIATES_IMAGE),
+        Content::FilledImage => bytes_of(alloc, &FILLED_IMAGE),
         Content::ForgedMoved(first, second) => changed(alloc, &MOVED, first, second),
         Content::ForgedWeakMoved(first, second) => changed(alloc, &WEAK_MOVED, first, second),
         Content::UnbuiltDump(change) => changed(alloc, &UNBUILT_DUMP, change, Change::None),

@@ -27,6 +27,28 @@ pub const THREE_IMAGE: [Part; 5] = [
     Part::Words(&[4_294_967_301]),
 ];
 
+/// What a collection leaves of the three objects: the first, and the last where the second was.
+pub const COLLECTED_IMAGE: [Part; 5] = [
+    Part::Bytes(b"COMPHEAP"),
+    Part::Numbers(&[1, 4, 2, 1]),
+    COLLECTED_OBJECTS,
+    Part::Numbers(&[0, 2]),
+    Part::Words(&[4_294_967_298]),
+];
+
+/// The next heap of the three objects after an empty run without fresh pages: the same on a whole page.
+pub const FILLED_IMAGE: [Part; 6] = [
+    Part::Bytes(b"COMPHEAP"),
+    Part::Numbers(&[1, 64, 2, 1]),
+    COLLECTED_OBJECTS,
+    Part::Words(&[0; 60]),
+    Part::Numbers(&[0, 2]),
+    Part::Words(&[4_294_967_298]),
+];
+
+// The words of the first object and of the last, as a collection leaves them.
+const COLLECTED_OBJECTS: Part = Part::Words(&[4_295_032_832, 11, 12_884_901_889, 4_294_967_296]);
+
 /// The words of the three objects.
 pub const THREE_OBJECTS: Part = Part::Words(&[
     4_295_032_832,
@@ -81,6 +103,22 @@ pub const WEAK_IMAGE: [Part; 5] = [
     ]),
     Part::Numbers(&[0, 5]),
     Part::Words(&[4_294_967_301]),
+];
+
+/// What a collection leaves of these objects. The weak word that referred to the second one is null.
+pub const COLLECTED_WEAK_IMAGE: [Part; 5] = [
+    Part::Bytes(b"COMPHEAP"),
+    Part::Numbers(&[2, 6, 2, 1]),
+    Part::Words(&[
+        281_483_566_710_784,
+        0,
+        4_294_967_300,
+        9,
+        844_424_930_131_969,
+        4_294_967_296,
+    ]),
+    Part::Numbers(&[0, 4]),
+    Part::Words(&[4_294_967_300]),
 ];
 
 /// The dump of these objects after a sweep by one worker.
@@ -139,6 +177,23 @@ pub const IMMEDIATES_IMAGE: [Part; 5] = [
     ]),
     Part::Numbers(&[0, 5]),
     Part::Words(&[4_294_967_301, 9_223_372_036_854_775_813]),
+];
+
+/// What a collection leaves of these objects: the weak word that referred to the second one is null, and the immediates
+/// are as they were.
+pub const COLLECTED_IMMEDIATES_IMAGE: [Part; 5] = [
+    Part::Bytes(b"COMPHEAP"),
+    Part::Numbers(&[4, 6, 2, 2]),
+    Part::Words(&[
+        281_483_566_710_784,
+        0,
+        9_223_372_041_149_743_104,
+        9,
+        844_424_930_131_969,
+        4_294_967_296,
+    ]),
+    Part::Numbers(&[0, 4]),
+    Part::Words(&[4_294_967_300, 9_223_372_036_854_775_813]),
 ];
 
 /// The dump after the run that writes immediates into a reference and a weak word of these objects.

@@ -1,5 +1,5 @@
 use Rattle.std.proofs.Common.{refl}
-use Rattle.command_line.specs.Forms.{audit_form, compact_form, map_form, mark_form, moved_form, next_form, plan_form, race_form, replay_form, word_form}
+use Rattle.command_line.specs.Forms.{audit_form, collect_form, compact_form, map_form, mark_form, moved_form, next_form, plan_form, race_form, replay_form, word_form}
 use Rattle.command_line.specs.Parser.{command}
 use Rattle.command_line.proofs.words.command.Goals as goal
 
@@ -13,5 +13,6 @@ returns c =
     let six = c.with_command-auditing.ensures _ (command audit_form) five c.audit_command.ensures refl in
     let seven = c.with_command-running.ensures _ (command (next_form c.args.reaches)) six c.next_command.ensures refl in
     let eight = c.with_command-marking.ensures _ (command mark_form) seven c.mark_command.ensures refl in
-    let nine = c.with_command-judging.ensures _ (command moved_form) eight c.moved_command.ensures refl in
-    c.with_command.ensures _ (command map_form) nine c.map_command.ensures refl
+    let nine = c.with_command-collecting.ensures _ (command collect_form) eight c.collect_command.ensures refl in
+    let ten = c.with_command-judging.ensures _ (command moved_form) nine c.moved_command.ensures refl in
+    c.with_command.ensures _ (command map_form) ten c.map_command.ensures refl

@@ -5,12 +5,12 @@ use Rattle.clap.specs.Words.{fault_of, found_of, one_text, rows_of, subcommand_n
 use Rattle.clap.specs.declared.parser.matches.ArgMatches.{ArgMatches}
 use Rattle.clap.specs.declared.parser.matches.Found.{Found}
 use Rattle.command_line.specs.Parser.{program}
-use Rattle.command_line.specs.Forms.{Form, audit_form, compact_form, map_form, mark_form, moved_form, next_form, plan_form, race_form, replay_form, standing, text, word_form}
+use Rattle.command_line.specs.Forms.{Form, audit_form, collect_form, compact_form, map_form, mark_form, moved_form, next_form, plan_form, race_form, replay_form, standing, text, word_form}
 use Rattle.command_line.specs.Maps.{map_of}
 use Rattle.command_line.specs.Nexts.{next_of}
 use Rattle.command_line.specs.Runs.{audit_of, run_of}
-use Rattle.command_line.proofs.TopLevel.{IsCommand, standing_audit, standing_compact, standing_map, standing_mark, standing_moved, standing_next, standing_plan, standing_program, standing_race, standing_replay, standing_word}
-use Rattle.command_line.proofs.Found.{CommandAsked, argument_there, bounded_number, command_asked, compact_asked, entered_as, index_there, mark_asked, none_entered, none_of_standing, plan_asked, run_asked, run_found, same_name, texts_utf8, word_asked, workers_fit, workers_within}
+use Rattle.command_line.proofs.TopLevel.{IsCommand, standing_audit, standing_collect, standing_compact, standing_map, standing_mark, standing_moved, standing_next, standing_plan, standing_program, standing_race, standing_replay, standing_word}
+use Rattle.command_line.proofs.Found.{CommandAsked, argument_there, bounded_number, collect_asked, collectors_fit, collectors_within, command_asked, compact_asked, entered_as, index_there, mark_asked, none_entered, none_of_standing, plan_asked, run_asked, run_found, same_name, texts_utf8, word_asked, workers_fit, workers_within}
 use Rattle.command_line.proofs.AuditFound.{audit_asked, audit_found}
 use Rattle.command_line.proofs.MapFound.{map_asked, map_found}
 use Rattle.command_line.proofs.MovedFound.{moved_asked}
@@ -169,6 +169,43 @@ returns-in-mark-clause-asked c =
     mark_asked (map string_bytes c.args.words.now) f given c.text_of-in-mark.result.now c.text_of-in-mark-2.result.now c.is_large-in-mark.result
     c.text_of-in-mark.ensures c.text_of-in-mark-2.ensures c.is_large-in-mark.ensures
 
+pub text_of-requires-in-collect : goal.text_of-requires-in-collect
+text_of-requires-in-collect c =
+    let f = found_of c.in-Some.found.now in
+    let given = given_to c.args.reaches collect_form (standing_collect c.args.reaches) c.args.words.now c.args.matches.now c.in-Some.name.now f c.in-collect.is c.requires.taken c.requires.found c.in-Some.ensures.name c.in-Some.ensures.rows in
+    argument_there (map string_bytes c.args.words.now) f collect_form given (text (codes "IMAGE")) refl
+
+pub text_of-new-requires : goal.text_of-new-requires
+text_of-new-requires c =
+    let f = found_of c.in-Some.found.now in
+    let given = given_to c.args.reaches collect_form (standing_collect c.args.reaches) c.args.words.now c.args.matches.now c.in-Some.name.now f c.in-collect.is c.requires.taken c.requires.found c.in-Some.ensures.name c.in-Some.ensures.rows in
+    argument_there (map string_bytes c.args.words.now) f collect_form given (text (codes "NEW")) refl
+
+pub count_of-workers-requires : goal.count_of-workers-requires
+count_of-workers-requires c =
+    let f = found_of c.in-Some.found.now in
+    let given = given_to c.args.reaches collect_form (standing_collect c.args.reaches) c.args.words.now c.args.matches.now c.in-Some.name.now f c.in-collect.is c.requires.taken c.requires.found c.in-Some.ensures.name c.in-Some.ensures.rows in
+    bounded_number 1 64 (one_text f (codes "workers")) (collectors_fit (map string_bytes c.args.words.now) f given)
+
+pub overflow_cast-workers : goal.overflow_cast-workers
+overflow_cast-workers c =
+    let f = found_of c.in-Some.found.now in
+    let given = given_to c.args.reaches collect_form (standing_collect c.args.reaches) c.args.words.now c.args.matches.now c.in-Some.name.now f c.in-collect.is c.requires.taken c.requires.found c.in-Some.ensures.name c.in-Some.ensures.rows in
+    omega (arith, (collectors_within (map string_bytes c.args.words.now) f given c.count_of-workers.result c.count_of-workers.ensures).1)
+
+pub returns-in-collect-clause-asked : goal.returns-in-collect-clause-asked
+returns-in-collect-clause-asked c =
+    let f = found_of c.in-Some.found.now in
+    let given = given_to c.args.reaches collect_form (standing_collect c.args.reaches) c.args.words.now c.args.matches.now c.in-Some.name.now f c.in-collect.is c.requires.taken c.requires.found c.in-Some.ensures.name c.in-Some.ensures.rows in
+    collect_asked (map string_bytes c.args.words.now) f given c.text_of-in-collect.result.now c.text_of-new.result.now c.count_of-workers.result c.is_large-in-collect.result
+    c.text_of-in-collect.ensures c.text_of-new.ensures c.count_of-workers.ensures c.is_large-in-collect.ensures
+
+pub returns-in-collect-clause-counts : goal.returns-in-collect-clause-counts
+returns-in-collect-clause-counts c =
+    let f = found_of c.in-Some.found.now in
+    let given = given_to c.args.reaches collect_form (standing_collect c.args.reaches) c.args.words.now c.args.matches.now c.in-Some.name.now f c.in-collect.is c.requires.taken c.requires.found c.in-Some.ensures.name c.in-Some.ensures.rows in
+    collectors_within (map string_bytes c.args.words.now) f given c.count_of-workers.result c.count_of-workers.ensures
+
 pub text_of-requires-in-moved : goal.text_of-requires-in-moved
 text_of-requires-in-moved c =
     let f = found_of c.in-Some.found.now in
@@ -206,7 +243,7 @@ unreachable-requires c =
     let words = map string_bytes c.args.words.now in
     let found = none_entered c.args.matches.now (subcommand_of (program (standing c.args.reaches)) words) c.requires.found c.in_default.ensures.name in
     none_of_standing c.args.reaches words None (texts_utf8 c.args.words.now) c.requires.taken found (λ rows e. cc) (λ rows e. cc) (λ rows e. cc) (λ rows e. cc)
-    (λ rows e. cc) (λ rows e. cc) (λ rows e. cc) (λ rows e. cc) (λ rows e. cc) (λ rows e. cc)
+    (λ rows e. cc) (λ rows e. cc) (λ rows e. cc) (λ rows e. cc) (λ rows e. cc) (λ rows e. cc) (λ rows e. cc)
 
 -- or one by another name
 pub unreachable-requires-in_default-name : goal.unreachable-requires-in_default-name
@@ -221,4 +258,5 @@ unreachable-requires-in_default-name c =
     (λ rows e. other.not-replay (same_name _ name _ mine rows refl e)) (λ rows e. other.not-race (same_name _ name _ mine rows refl e))
     (λ rows e. other.not-compact (same_name _ name _ mine rows refl e)) (λ rows e. other.not-audit (same_name _ name _ mine rows refl e))
     (λ rows e. other.not-next (same_name _ name _ mine rows refl e)) (λ rows e. other.not-mark (same_name _ name _ mine rows refl e))
+    (λ rows e. other.not-collect (same_name _ name _ mine rows refl e))
     (λ rows e. other.not-moved (same_name _ name _ mine rows refl e)) (λ rows e. other.not-map (same_name _ name _ mine rows refl e))

@@ -1,4 +1,4 @@
-use Rattle.std.proofs.Common.{ℕ, OnErr, OnOk, codes, subst}
+use Rattle.std.proofs.Common.{ℕ, OnErr, codes, subst}
 use Rattle.std.proofs.lemmas.Result.{err_from_is_err_and}
 use Rattle.std.specs.Io.KnownBytes.{Appends}
 use Rattle.heap_layout.specs.Counted.{inner_of}

@@ -1,4 +1,4 @@
-use Rattle.std.proofs.Common.{◌<◌, rules, arith, ◌∙◌}
+use Rattle.std.proofs.Common.{◌<◌, rules, ◌∙◌}
 use Rattle.std.proofs.KnownBytes.{Appends-trans}
 use Rattle.heap_layout.specs.Heap.{live}
 use Rattle.page_plan.specs.Sliding.{pages}

@@ -89,9 +89,17 @@ pub returns-in-Mark-clause-done : goal.returns-in-Mark-clause-done
 returns-in-Mark-clause-done g c =
     subst (λ (task : Task). OnOk c.print_mark.result (DoesTask (g.F.Files.disk c.args.files.now) c.print_mark.new.files (g.O.Write.contents (inner_of c.args.out.now).now) (g.O.Write.contents (inner_of c.print_mark.new.out).now) task)) (sym c.in-Mark.is) c.print_mark.ensures.marked
 
+pub returns-in-Collect-clause-done : goal.returns-in-Collect-clause-done
+returns-in-Collect-clause-done g c =
+    subst (λ (task : Task). OnOk c.print_collect.result (DoesTask (g.F.Files.disk c.args.files.now) c.print_collect.new.files (g.O.Write.contents (inner_of c.args.out.now).now) (g.O.Write.contents (inner_of c.print_collect.new.out).now) task)) (sym c.in-Collect.is) c.print_collect.ensures.collected
+
 pub returns-in-Mark-clause-cause : goal.returns-in-Mark-clause-cause
 returns-in-Mark-clause-cause g c =
     subst (λ (task : Task). IfErr c.print_mark.result (RefusesTask (g.F.Files.disk c.args.files.now) c.args.files.now c.print_mark.new.files (g.O.Write.contents (inner_of c.args.out.now).now) (g.O.Write.contents (inner_of c.print_mark.new.out).now) task)) (sym c.in-Mark.is) c.print_mark.ensures.cause
+
+pub returns-in-Collect-clause-cause : goal.returns-in-Collect-clause-cause
+returns-in-Collect-clause-cause g c =
+    subst (λ (task : Task). IfErr c.print_collect.result (RefusesTask (g.F.Files.disk c.args.files.now) c.args.files.now c.print_collect.new.files (g.O.Write.contents (inner_of c.args.out.now).now) (g.O.Write.contents (inner_of c.print_collect.new.out).now) task)) (sym c.in-Collect.is) c.print_collect.ensures.cause
 
 pub returns-in-Help-clause-cause : goal.returns-in-Help-clause-cause
 returns-in-Help-clause-cause g c =
@@ -133,6 +141,9 @@ returns-in-Moved-clause-output g c = left_stopped g.O.Write.contents c.args.out.
 pub returns-in-Mark-clause-output : goal.returns-in-Mark-clause-output
 returns-in-Mark-clause-output g c = left_stopped g.O.Write.contents c.args.out.now c.print_mark.new.out c.print_mark.result c.print_mark.ensures.output
 
+pub returns-in-Collect-clause-output : goal.returns-in-Collect-clause-output
+returns-in-Collect-clause-output g c = left_stopped g.O.Write.contents c.args.out.now c.print_collect.new.out c.print_collect.result c.print_collect.ensures.output
+
 pub returns-in-Help-clause-output : goal.returns-in-Help-clause-output
 returns-in-Help-clause-output g c =
     left_stopped g.O.Write.contents c.args.out.now c.print_help.new.out c.print_help.result
@@ -157,6 +168,9 @@ returns-in-Next-clause-unmade g c = c.print_next.ensures.unmade
 
 pub returns-in-Mark-clause-unmade : goal.returns-in-Mark-clause-unmade
 returns-in-Mark-clause-unmade g c = c.print_mark.ensures.unmade
+
+pub returns-in-Collect-clause-unmade : goal.returns-in-Collect-clause-unmade
+returns-in-Collect-clause-unmade g c = c.print_collect.ensures.unmade
 
 pub returns-in-Plan-clause-unmade : goal.returns-in-Plan-clause-unmade
 returns-in-Plan-clause-unmade g c = read_unmade (g.F.Files.disk c.args.files.now) c.args.files.now c.print_plan.new.files c.print_plan.result c.print_plan.ensures.left
