@@ -99,3 +99,57 @@ pub enum CollectFault {
     #[error("{0} live words do not fit")]
     NoRoom(u64),
 }
+
+/// Why a heap is not surveyed by tables that were lent. `OutOfMemory` never comes.
+#[derive(Clone, Copy, Debug, PartialEq, Eq, Error)]
+pub enum LentFault {
+    /// There are more words than these, for which the tables have room, though not too many words or roots for the
+    /// edition. Nothing else was looked at.
+    #[error("the tables have room for {0} words")]
+    ShortTables(u64),
+    /// The heap is refused.
+    #[error("{0}")]
+    Survey(SurveyFault),
+}
+
+/// Why words are not surveyed by marks of the caller's own in tables that were lent. `OutOfMemory` never comes.
+#[derive(Clone, Copy, Debug, PartialEq, Eq, Error)]
+pub enum MarksLentFault {
+    /// There are more words than these, for which the tables have room, though not too many words or roots for the
+    /// edition. Nothing else was looked at.
+    #[error("the tables have room for {0} words")]
+    ShortTables(u64),
+    /// The words, the roots or the marks are refused.
+    #[error("{0}")]
+    Marks(MarksFault),
+}
+
+/// Why a heap is not collected by tables that were lent. `OutOfMemory` never comes.
+#[derive(Clone, Copy, Debug, PartialEq, Eq, Error)]
+pub enum CollectLentFault {
+    /// There are more words than these, for which the tables have room, though not too many words or roots for the
+    /// edition. Nothing else was looked at.
+    #[error("the tables have room for {0} words")]
+    ShortTables(u64),
+    /// The heap is refused, or its live words do not fit.
+    #[error("{0}")]
+    Collect(CollectFault),
+}
+
+/// Why a part is not filled from words that may be others than those that were surveyed.
+#[derive(Clone, Copy, Debug, PartialEq, Eq, Error)]
+pub enum SlideFault {
+    /// The part ends behind the live words.
+    #[error("the part ends behind the live words")]
+    NoSuchPart,
+    /// There are not as many words as were surveyed.
+    #[error("there are not as many words as were surveyed")]
+    OtherCount,
+    /// The object at this index has not as many words as when it was surveyed: its header was changed.
+    #[error("the object at {0} was changed")]
+    Changed(u64),
+    /// The word at this index is a reference in the part, and neither null nor the address of a live object, nor an
+    /// immediate.
+    #[error("the reference at {0} leads to no live object")]
+    Unmarked(u64),
+}

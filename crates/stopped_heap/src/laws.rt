@@ -1,13 +1,19 @@
 //! Laws of collections. Each is the contract of a function that does nothing.
-ghost use Rattle.std.specs.Prelude.{◌≡◌, ℕ, List, Contains, sum};
+ghost use Rattle.std.specs.Prelude.{◌≡◌, ◌+◌, ◌≤◌, ℕ, List, Contains, length, sum};
 ghost use Rattle.heap_layout.specs.declared.edition.Edition.{Edition};
 ghost use Rattle.heap_layout.specs.Faults.{IsAccepted};
 ghost use Rattle.heap_layout.specs.Heap.{Heap, live};
 ghost use Rattle.page_plan.specs.Sliding.{live_words};
 ghost use Rattle.reachability.specs.Reachable.{AreReachable};
+ghost use Rattle.stopped_heap.specs.Collecting.{HasCollected, RefusesCollection};
+ghost use Rattle.stopped_heap.specs.InPlace.{HaveLeftTheSame};
 ghost use Rattle.stopped_heap.specs.Reached.{AreReached, IsReachedFrom, IsSound, IsFaultOf};
 ghost use Rattle.stopped_heap.specs.Parts.{joined_parts};
-ghost use Rattle.stopped_heap.specs.Settled.{collected, settled_words, AreSlid};
+ghost use Rattle.stopped_heap.specs.Places.{led_by, words_now, Found, IsFoundOf, IsSlideFault};
+ghost use Rattle.stopped_heap.specs.Settled.{collected, settled_word, settled_words, AreSlid};
+ghost use Rattle.stopped_heap.specs.declared.fault.CollectFault.{CollectFault};
+ghost use Rattle.stopped_heap.specs.declared.fault.CollectFault.TheVariants as collection;
+ghost use Rattle.stopped_heap.specs.declared.fault.SlideFault.{SlideFault};
 ghost use Rattle.stopped_heap.specs.declared.fault.SurveyFault.{SurveyFault};
 ghost use Rattle.stopped_heap.specs.declared.fault.SurveyFault.TheVariants as survey;
 
@@ -49,6 +55,20 @@ pub fn reached_is_one()
     ensures { (edition : Edition) (words roots marks others : List ℕ) → AreReached edition words roots marks → AreReached edition words roots others → marks ≡ others }
 {}
 
+/// Of the same words and roots each collection leaves the same live words and roots, whatever memory it slides into. So
+/// `collect_in_place` leaves what `collect` leaves, and where that slides into a memory that held the words of the heap,
+/// the words behind the live ones are the same too. What the one collects the other refuses only if memory runs out;
+/// and `collect` always has room in a memory as long as the words.
+pub fn collected_is_one()
+    ensures same { (edition : Edition) (words roots : List ℕ) (count other : ℕ) (new_roots other_roots before other_before after other_after : List ℕ)
+        → HasCollected edition words roots count new_roots before after → HasCollected edition words roots other other_roots other_before other_after
+        → HaveLeftTheSame count other new_roots other_roots before other_before after other_after }
+    ensures fault { (edition : Edition) (words roots : List ℕ) (count : ℕ) (new_roots before after : List ℕ) (fault : SurveyFault)
+        → HasCollected edition words roots count new_roots before after → IsFaultOf edition words roots fault → fault ≡ survey.OutOfMemory }
+    ensures room { (edition : Edition) (words roots : List ℕ) (room : ℕ) (fault : CollectFault) → length words ≤ room → RefusesCollection edition words roots room fault
+        → (refused : SurveyFault) × (fault ≡ collection.Survey refused) }
+{}
+
 /// Whoever marked the objects of a sound heap: each object that the roots reach is marked. So of a heap that is
 /// surveyed by marks of the caller's own nothing that the roots reach is lost.
 pub fn reached_is_marked()
@@ -59,4 +79,21 @@ pub fn reached_is_marked()
 /// when they are joined, in whatever order and by whatever threads they were filled.
 pub fn parts_are_whole()
     ensures { (heap : Heap) (counts : List ℕ) → IsSound heap → sum counts ≡ live_words (live heap) → joined_parts (settled_words (live heap)) 0 counts ≡ (collected heap).words }
+{}
+
+/// Of the words that were surveyed: what slides as they are now is what slides. So `Places::try_slide` fills the parts
+/// that `Survey::slide` fills, and those that lie side by side are the collected heap.
+pub fn words_now_are_settled()
+    ensures { (found : Found) (heap : Heap) → IsFoundOf found heap → words_now found heap.words ≡ settled_words (live heap) }
+{}
+
+/// Roots and weak words lead where they lead after the collection, whatever was written to the words since.
+pub fn led_is_settled()
+    ensures { (found : Found) (heap : Heap) (word : ℕ) → IsFoundOf found heap → led_by found word ≡ settled_word heap.edition (live heap) word }
+{}
+
+/// Of the words that were surveyed no part within the live words is refused.
+pub fn found_has_no_fault()
+    ensures { (found : Found) (heap : Heap) (first count : ℕ) (fault : SlideFault) → IsFoundOf found heap → first + count ≤ length found.indices
+        → IsSlideFault found heap.words first count fault → ⊥ }
 {}

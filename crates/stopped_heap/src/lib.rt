@@ -1,11 +1,15 @@
 //! A collection of a heap at rest: while all threads of its runtime stand still. The heap lies in memory of the
-//! caller, and so does the memory into which it slides; between two collections the caller reads, writes and allocates
-//! there, with no call of this crate.
+//! caller, and so does the memory into which it slides, if it does not slide within its own; between two collections
+//! the caller reads, writes and allocates there, with no call of this crate.
 //!
 //! A survey finds what the roots reach, or takes marks of the caller's own; then each live object slides, the first
 //! one to index 0, each behind the one before. It asks only of live objects that they lie within the words and do not
 //! overlap, and looks at nothing else. This is mark and slide with one bit a live word, whose prefix sums say where
 //! each word goes.
+//!
+//! A survey allocates its tables, or takes `Tables` that were made before; then nothing is allocated, and memory does not
+//! run out. It borrows the words. `Survey::release` lets them go: `Places` keep what was found, and slide the objects out
+//! of words that may have changed since, or tell which object changed.
 //!
 //! A root that is not handed in is lost. The addresses before and after a collection are numbers of one range, so one
 //! that was kept elsewhere, or is forwarded twice, may be that of another object. During a call no other thread may
@@ -14,26 +18,40 @@
 
 mod bits;
 mod collecting;
+mod collecting_lent;
 mod fault;
 mod finding;
 mod forwarding;
+mod in_place;
 mod laws;
+mod lending;
 mod marking;
 mod marks;
 mod meeting;
 mod offsets;
+mod places;
 mod shape;
 mod sliding;
+mod sliding_down;
 mod survey;
+mod tables;
 #[cfg(test)]
 mod tests;
 mod threads;
+mod trying;
 
 pub use collecting::collect;
-pub use fault::{CollectFault, MarksFault, SurveyFault};
-pub use laws::{
-    accepted_is_sound, collected_is_accepted, collected_is_reached, collected_is_slid,
-    parts_are_whole, reached_is_marked, reached_is_one, sound_has_no_fault,
+pub use collecting_lent::collect_lent;
+pub use fault::{
+    CollectFault, CollectLentFault, LentFault, MarksFault, MarksLentFault, SlideFault, SurveyFault,
 };
+pub use in_place::{collect_in_place, collect_in_place_lent};
+pub use laws::{
+    accepted_is_sound, collected_is_accepted, collected_is_one, collected_is_reached,
+    collected_is_slid, found_has_no_fault, led_is_settled, parts_are_whole, reached_is_marked,
+    reached_is_one, sound_has_no_fault, words_now_are_settled,
+};
+pub use places::Places;
 pub use survey::Survey;
+pub use tables::{NotSurveyed, NotTaken, Tables};
 pub use threads::collect_by_threads;

@@ -1,10 +1,11 @@
 //! Takes the words of objects that the caller marked.
-ghost use Rattle.std.specs.Prelude.{◌≡◌, ℕ, ◌+◌, ◌*◌, ◌^◌, ◌<◌, ◌≤◌, true, false, List, length, slice_index, IfErr, OnOk};
+ghost use Rattle.std.specs.Prelude.{◌≡◌, ◌≢◌, ℕ, ◌+◌, ◌*◌, ◌^◌, ◌<◌, ◌≤◌, true, false, List, length, slice_index, IfErr, OnOk};
 ghost use Rattle.heap_layout.specs.Bits.{bit, leads};
 ghost use Rattle.heap_layout.specs.Values.{or_immediate};
 ghost use Rattle.stopped_heap.specs.Marks.{IsMarksFaultOf, AllKept, IsKept, AreBefore};
 ghost use Rattle.stopped_heap.specs.Meeting.{AreApart};
 ghost use Rattle.stopped_heap.specs.Reached.{IsWordOf};
+ghost use Rattle.stopped_heap.specs.declared.fault.MarksFault.TheVariants as refusal;
 
 use crate::bits::take_run;
 use crate::fault::MarksFault;
@@ -15,9 +16,9 @@ use crate::meeting::check_leads;
 use crate::shape::shape_of;
 use heap_layout::Edition;
 
-// Whether a word is null, the address of a marked object, or an immediate.
+/// Whether a word is null, the address of a marked object, or an immediate.
 #[inline(always)]
-fn leads_to(edition: Edition, heads: &[u64], word: u64) -> bool
+pub(crate) fn leads_to(edition: Edition, heads: &[u64], word: u64) -> bool
     requires { length heads.now ≤ 2 ^ 25 }
     ensures { result ≡ or_immediate edition (leads heads.now) word }
 {
@@ -64,6 +65,7 @@ fn take_mark(
     ensures stay { OnOk result ((j : ℕ) → bit bits.old j ≡ true → bit bits.new j ≡ true) }
     ensures before { OnOk result (AreBefore edition words.now heads.now (i + 1) bits.new) }
     ensures fault { IfErr result (λ fault. (roots : List ℕ) → IsMarksFaultOf edition words.now roots heads.now fault) }
+    ensures never { IfErr result (λ fault. fault ≢ refusal.OutOfMemory) }
     ensures long { length bits.new ≡ length bits.old }
 {
     let count = words.len();
@@ -108,6 +110,7 @@ pub(crate) fn take_marks(
     ensures only { OnOk result ((j : ℕ) → bit bits.new j ≡ true → (i : ℕ) × (bit heads.now i ≡ true) × IsWordOf edition words.now i j) }
     ensures apart { OnOk result (AreApart edition words.now heads.now) }
     ensures fault { IfErr result (λ fault. (roots : List ℕ) → IsMarksFaultOf edition words.now roots heads.now fault) }
+    ensures never { IfErr result (λ fault. fault ≢ refusal.OutOfMemory) }
     ensures long { length bits.new ≡ length bits.old }
 {
     let end = 64 * heads.len();

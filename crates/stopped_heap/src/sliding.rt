@@ -12,9 +12,9 @@ use crate::forwarding::{below, settled_reference, settled_weak};
 use crate::shape::{Shape, shape_of};
 use heap_layout::Edition;
 
-// Copies `count` words, from index `from` on, into the part, from its word `at` on.
+/// Copies `count` words, from index `from` on, into the part, from its word `at` on.
 #[inline(always)]
-fn copy_in(part: &mut [u64], at: usize, words: &[u64], from: usize, count: usize)
+pub(crate) fn copy_in(part: &mut [u64], at: usize, words: &[u64], from: usize, count: usize)
     requires room { at + count ≤ length part.old }
     requires known { from + count ≤ length words.now }
     ensures written { (k : ℕ) → k < count → slice_index part.new (at + k) ≡ slice_index words.now (from + k) }

@@ -1,4 +1,7 @@
 //! Small heaps, with the words that a person reads off.
+mod in_place;
+mod lent;
+mod places;
 mod refusals;
 mod surveys;
 

@@ -1,0 +1,344 @@
+use Rattle.std.proofs.Common.{◌≡◌, ℕ, ◌+◌, ◌-◌, ◌<◌, ◌≤◌, ◌⊎◌, length, get_or, inl, inr, refl, sym, ap, subst, ◌∙◌, arith}
+use Rattle.std.proofs.lemmas.Bool.{cases_lt}
+use Rattle.heap_layout.specs.Header.{size_of}
+use Rattle.heap_layout.specs.Heap.{header_at, object_at}
+use Rattle.heap_layout.proofs.Bounds.{words_most}
+use Rattle.mark_tables.specs.Bits.{set_bits}
+use Rattle.stopped_heap.specs.Places.{led_by, led_words, words_now, Found, IsAsFound, IsSlideFault}
+use Rattle.stopped_heap.specs.declared.fault.SlideFault.TheVariants.{Changed, Unmarked}
+use Rattle.stopped_heap.proofs.Bounding.{bit-inside}
+use Rattle.stopped_heap.proofs.Placing.{found-same}
+use Rattle.stopped_heap.proofs.Slides.{some-head}
+use Rattle.stopped_heap.proofs.Tried.{tried-first, start-inside, is-next, now-placed, tried-next, tried-all, tried-changed, tried-unmarked}
+use Rattle.stopped_heap.proofs.trying.try_slide_run.Goals as goal
+
+pub last_head-start-requires-clause-some : goal.last_head-start-requires-clause-some
+last_head-start-requires-clause-some c =
+    some-head c.args.edition c.requires.tables.0 c.args.heads.now c.args.bits.now c.args.counts.now c.requires.tables.2 c.args.first (omega arith)
+
+pub loop-place-init : goal.loop-place-init
+loop-place-init c =
+    let e = c.args.edition in
+    let words = c.args.words.now in
+    let heads = c.args.heads.now in
+    let bits = c.args.bits.now in
+    let counts = c.args.counts.now in
+    let first = c.args.first in
+    let ws = c.requires.tables.0 in
+    let last = c.last_head-start.ensures in (
+      ws,
+      c.requires.tables.1,
+      c.requires.tables.2,
+      tried-first e ws heads bits counts c.requires.tables.2 words first c.below-place.result c.last_head-start.result c.args.part.now
+          (omega arith) last.here c.below-place.ensures.below (omega (arith, c.below-place.ensures.below, last.below)) last.last,
+      refl,
+    )
+
+pub offset_bounds-words-start : goal.offset_bounds-words-start
+offset_bounds-words-start c =
+    let e = c.args.edition in
+    let words = c.args.words.now in
+    let heads = c.args.heads.now in
+    let bits = c.args.bits.now in
+    let counts = c.args.counts.now in
+    let first = c.args.first in
+    let loop = c.loop-place.invariant in
+    let ws = loop.0 in
+    let tables = loop.2 in
+    let place = c.loop-place.place in
+    let start = c.loop-place.start in
+    let part = c.loop-place.part in
+    let lt : place < length (set_bits bits) = omega arith in
+    let inside = start-inside e ws heads bits counts tables words first place start part loop.3 lt in
+    omega (arith, inside.0, tables.sound.few_words, words_most e)
+
+pub bounds-words-start : goal.bounds-words-start
+bounds-words-start c =
+    let e = c.args.edition in
+    let words = c.args.words.now in
+    let heads = c.args.heads.now in
+    let bits = c.args.bits.now in
+    let counts = c.args.counts.now in
+    let first = c.args.first in
+    let loop = c.loop-place.invariant in
+    let ws = loop.0 in
+    let tables = loop.2 in
+    let place = c.loop-place.place in
+    let start = c.loop-place.start in
+    let part = c.loop-place.part in
+    let lt : place < length (set_bits bits) = omega arith in
+    let inside = start-inside e ws heads bits counts tables words first place start part loop.3 lt in
+    omega (arith, inside.0, loop.1)
+
+pub head_behind-next-requires-clause-known : goal.head_behind-next-requires-clause-known
+head_behind-next-requires-clause-known c =
+    let e = c.args.edition in
+    let words = c.args.words.now in
+    let heads = c.args.heads.now in
+    let bits = c.args.bits.now in
+    let counts = c.args.counts.now in
+    let first = c.args.first in
+    let loop = c.loop-place.invariant in
+    let ws = loop.0 in
+    let tables = loop.2 in
+    let place = c.loop-place.place in
+    let start = c.loop-place.start in
+    let part = c.loop-place.part in
+    let lt : place < length (set_bits bits) = omega arith in
+    bit-inside heads start (start-inside e ws heads bits counts tables words first place start part loop.3 lt).1
+
+pub overflow_sub-next_place : goal.overflow_sub-next_place
+overflow_sub-next_place c =
+    let e = c.args.edition in
+    let words = c.args.words.now in
+    let heads = c.args.heads.now in
+    let bits = c.args.bits.now in
+    let counts = c.args.counts.now in
+    let first = c.args.first in
+    let loop = c.loop-place.invariant in
+    let ws = loop.0 in
+    let tables = loop.2 in
+    let place = c.loop-place.place in
+    let start = c.loop-place.start in
+    let part = c.loop-place.part in
+    let lt : place < length (set_bits bits) = omega arith in
+    let next = c.head_behind-next.result in
+    let behind = c.all_below-next_place.result in
+    let found = c.head_behind-next.ensures in
+    let counted = c.all_below-next_place.ensures in
+    let object = is-next e ws heads bits counts tables words first place start part loop.3 lt next behind found.from found.none found.here counted.below counted.all in
+    omega (arith, object.size)
+
+pub returns-then-shape-next_place-clause-fault : goal.returns-then-shape-next_place-clause-fault
+returns-then-shape-next_place-clause-fault c =
+    λ room.
+    let e = c.args.edition in
+    let words = c.args.words.now in
+    let heads = c.args.heads.now in
+    let bits = c.args.bits.now in
+    let counts = c.args.counts.now in
+    let first = c.args.first in
+    let loop = c.loop-place.invariant in
+    let ws = loop.0 in
+    let tables = loop.2 in
+    let place = c.loop-place.place in
+    let start = c.loop-place.start in
+    let part = c.loop-place.part in
+    let lt : place < length (set_bits bits) = omega arith in
+    let next = c.head_behind-next.result in
+    let behind = c.all_below-next_place.result in
+    let found = c.head_behind-next.ensures in
+    let counted = c.all_below-next_place.ensures in
+    let object = is-next e ws heads bits counts tables words first place start part loop.3 lt next behind found.from found.none found.here counted.below counted.all in
+    subst (λ (f : Found). IsSlideFault f words first (length c.args.part.now) (Changed start)) (found-same e ws heads bits counts (length words) room loop.1 tables)
+    (tried-changed e ws heads bits counts tables words first (length c.args.part.now) place start next behind loop.3.number c.shape_of-shape.result.size object
+    c.shape_of-shape.ensures.size (omega (arith, object.size)) (λ same. c.if-shape-next_place.true same))
+
+pub overflow_sub-stop : goal.overflow_sub-stop
+overflow_sub-stop c =
+    let e = c.args.edition in
+    let words = c.args.words.now in
+    let heads = c.args.heads.now in
+    let bits = c.args.bits.now in
+    let counts = c.args.counts.now in
+    let first = c.args.first in
+    let loop = c.loop-place.invariant in
+    let ws = loop.0 in
+    let tables = loop.2 in
+    let place = c.loop-place.place in
+    let start = c.loop-place.start in
+    let part = c.loop-place.part in
+    let lt : place < length (set_bits bits) = omega arith in
+    let next = c.head_behind-next.result in
+    let behind = c.all_below-next_place.result in
+    let found = c.head_behind-next.ensures in
+    let counted = c.all_below-next_place.ensures in
+    let object = is-next e ws heads bits counts tables words first place start part loop.3 lt next behind found.from found.none found.here counted.below counted.all in
+    let size : c.shape_of-shape.result.size ≡ size_of (header_at e words start) = c.shape_of-shape.ensures.size in
+    let seen : c.shape_of-shape.result.size ≡ behind - place = omega (arith, c.if-shape-next_place.false) in
+    omega (arith, object.reaches, object.size, seen, c.saturating_sub-from.ensures, c.min-stop.ensures, c.loop-place-test.true)
+
+pub try_slide_object-tried-requires-clause-placed : goal.try_slide_object-tried-requires-clause-placed
+try_slide_object-tried-requires-clause-placed c =
+    let e = c.args.edition in
+    let words = c.args.words.now in
+    let heads = c.args.heads.now in
+    let bits = c.args.bits.now in
+    let counts = c.args.counts.now in
+    let first = c.args.first in
+    let loop = c.loop-place.invariant in
+    let ws = loop.0 in
+    let tables = loop.2 in
+    let place = c.loop-place.place in
+    let start = c.loop-place.start in
+    let part = c.loop-place.part in
+    let lt : place < length (set_bits bits) = omega arith in
+    let next = c.head_behind-next.result in
+    let behind = c.all_below-next_place.result in
+    let found = c.head_behind-next.ensures in
+    let counted = c.all_below-next_place.ensures in
+    let object = is-next e ws heads bits counts tables words first place start part loop.3 lt next behind found.from found.none found.here counted.below counted.all in
+    let size : c.shape_of-shape.result.size ≡ size_of (header_at e words start) = c.shape_of-shape.ensures.size in
+    let seen : c.shape_of-shape.result.size ≡ behind - place = omega (arith, c.if-shape-next_place.false) in
+    now-placed e ws heads bits counts tables words loop.3.number start object.known object.at loop.1 (omega (arith, size, seen, object.size))
+
+pub try_slide_object-tried-requires-clause-some : goal.try_slide_object-tried-requires-clause-some
+try_slide_object-tried-requires-clause-some c =
+    let e = c.args.edition in
+    let words = c.args.words.now in
+    let heads = c.args.heads.now in
+    let bits = c.args.bits.now in
+    let counts = c.args.counts.now in
+    let first = c.args.first in
+    let loop = c.loop-place.invariant in
+    let ws = loop.0 in
+    let tables = loop.2 in
+    let place = c.loop-place.place in
+    let start = c.loop-place.start in
+    let part = c.loop-place.part in
+    let lt : place < length (set_bits bits) = omega arith in
+    let next = c.head_behind-next.result in
+    let behind = c.all_below-next_place.result in
+    let found = c.head_behind-next.ensures in
+    let counted = c.all_below-next_place.ensures in
+    let object = is-next e ws heads bits counts tables words first place start part loop.3 lt next behind found.from found.none found.here counted.below counted.all in
+    let size : c.shape_of-shape.result.size ≡ size_of (header_at e words start) = c.shape_of-shape.ensures.size in
+    let seen : c.shape_of-shape.result.size ≡ behind - place = omega (arith, c.if-shape-next_place.false) in
+    omega (arith, object.reaches, object.size, seen, c.saturating_sub-from.ensures, c.min-stop.ensures, c.loop-place-test.true)
+
+pub try_slide_object-tried-requires-clause-inside : goal.try_slide_object-tried-requires-clause-inside
+try_slide_object-tried-requires-clause-inside c =
+    let e = c.args.edition in
+    let words = c.args.words.now in
+    let heads = c.args.heads.now in
+    let bits = c.args.bits.now in
+    let counts = c.args.counts.now in
+    let first = c.args.first in
+    let loop = c.loop-place.invariant in
+    let ws = loop.0 in
+    let tables = loop.2 in
+    let place = c.loop-place.place in
+    let start = c.loop-place.start in
+    let part = c.loop-place.part in
+    let lt : place < length (set_bits bits) = omega arith in
+    let next = c.head_behind-next.result in
+    let behind = c.all_below-next_place.result in
+    let found = c.head_behind-next.ensures in
+    let counted = c.all_below-next_place.ensures in
+    let object = is-next e ws heads bits counts tables words first place start part loop.3 lt next behind found.from found.none found.here counted.below counted.all in
+    let size : c.shape_of-shape.result.size ≡ size_of (header_at e words start) = c.shape_of-shape.ensures.size in
+    let seen : c.shape_of-shape.result.size ≡ behind - place = omega (arith, c.if-shape-next_place.false) in
+    omega (arith, object.reaches, object.size, seen, size, c.saturating_sub-from.ensures, c.min-stop.ensures, c.loop-place-test.true)
+
+pub returns-in-Err-clause-fault : goal.returns-in-Err-clause-fault
+returns-in-Err-clause-fault c =
+    λ room.
+    let e = c.args.edition in
+    let words = c.args.words.now in
+    let heads = c.args.heads.now in
+    let bits = c.args.bits.now in
+    let counts = c.args.counts.now in
+    let first = c.args.first in
+    let loop = c.loop-place.invariant in
+    let ws = loop.0 in
+    let tables = loop.2 in
+    let place = c.loop-place.place in
+    let start = c.loop-place.start in
+    let part = c.loop-place.part in
+    let lt : place < length (set_bits bits) = omega arith in
+    let next = c.head_behind-next.result in
+    let behind = c.all_below-next_place.result in
+    let found = c.head_behind-next.ensures in
+    let counted = c.all_below-next_place.ensures in
+    let object = is-next e ws heads bits counts tables words first place start part loop.3 lt next behind found.from found.none found.here counted.below counted.all in
+    let size : c.shape_of-shape.result.size ≡ size_of (header_at e words start) = c.shape_of-shape.ensures.size in
+    let seen : c.shape_of-shape.result.size ≡ behind - place = omega (arith, c.if-shape-next_place.false) in
+    let inside = c.in-Err.ensures.inside in
+    let f = c.in-Err.f in
+    let offset = c.saturating_sub-from.ensures in
+    let ends = c.min-stop.ensures in
+    let short : f < c.min-stop.result = omega (arith, inside.0, inside.1) in
+    subst (λ (g : Found). IsSlideFault g words first (length c.args.part.now) (Unmarked (start + f))) (found-same e ws heads bits counts (length words) room loop.1 tables)
+    (tried-unmarked e ws heads bits counts tables words first place start part loop.3 next behind f object (length c.args.part.now)
+    (omega (arith, inside.0, offset)) (omega (arith, short, ends, c.loop-place-test.true)) (omega (arith, short, ends, seen)) inside.2 inside.3 c.in-Err.ensures.unmarked)
+
+pub loop-place-preserved : goal.loop-place-preserved
+loop-place-preserved c =
+    let e = c.args.edition in
+    let words = c.args.words.now in
+    let heads = c.args.heads.now in
+    let bits = c.args.bits.now in
+    let counts = c.args.counts.now in
+    let first = c.args.first in
+    let loop = c.loop-place.invariant in
+    let ws = loop.0 in
+    let tables = loop.2 in
+    let place = c.loop-place.place in
+    let start = c.loop-place.start in
+    let part = c.loop-place.part in
+    let lt : place < length (set_bits bits) = omega arith in
+    let next = c.head_behind-next.result in
+    let behind = c.all_below-next_place.result in
+    let found = c.head_behind-next.ensures in
+    let counted = c.all_below-next_place.ensures in
+    let object = is-next e ws heads bits counts tables words first place start part loop.3 lt next behind found.from found.none found.here counted.below counted.all in
+    let size : c.shape_of-shape.result.size ≡ size_of (header_at e words start) = c.shape_of-shape.ensures.size in
+    let seen : c.shape_of-shape.result.size ≡ behind - place = omega (arith, c.if-shape-next_place.false) in
+    let from = c.saturating_sub-from.result in
+    let stop = c.min-stop.result in
+    let new = c.try_slide_object-tried.new.part in
+    let same = found-same e ws heads bits counts (length words) 0 loop.1 tables in
+    let whole : (c.shape_of-shape.result.size ≤ stop) ⊎ (first + length part ≤ place + stop) =
+    elim (cases_lt stop c.shape_of-shape.result.size) [
+      | inl cut ↦ inr (omega (arith, cut, c.min-stop.ensures, loop.4))
+      | inr all ↦ inl all
+    ] in (
+      ws,
+      loop.1,
+      tables,
+      tried-next e ws heads bits counts tables words first place start part loop.3 next behind object c.shape_of-shape.result.size from stop (place + from - first) new
+          size seen c.saturating_sub-from.ensures (omega (arith, c.min-stop.ensures)) whole refl c.try_slide_object-tried.ensures.length c.in_default.ensures.before
+          (λ j less. c.in_default.ensures.written j less ∙ ap (λ (g : Found). get_or (led_words (led_by g) (object_at e words start)) (from + j) 0) (sym same))
+          (λ f low high positive few. c.in_default.ensures.marked f low (omega (arith, low, high)) positive few),
+      c.try_slide_object-tried.ensures.length ∙ loop.4,
+    )
+
+pub returns-clause-words : goal.returns-clause-words
+returns-clause-words c =
+    λ j lt.
+    let e = c.args.edition in
+    let words = c.args.words.now in
+    let heads = c.args.heads.now in
+    let bits = c.args.bits.now in
+    let counts = c.args.counts.now in
+    let first = c.args.first in
+    let loop = c.loop-place.invariant in
+    let ws = loop.0 in
+    let tables = loop.2 in
+    let place = c.loop-place.place in
+    let start = c.loop-place.start in
+    let part = c.loop-place.part in
+    let same = found-same e ws heads bits counts (length words) 0 loop.1 tables in
+    let at : j ≡ first + j - first = omega arith in
+    ap (λ (n : ℕ). get_or part n 0) at
+    ∙ loop.3.made (first + j) (omega arith) (omega (arith, lt, c.loop-place-test.false)) (omega (arith, lt, loop.4))
+    ∙ ap (λ (g : Found). get_or (words_now g words) (first + j) 0) same
+
+pub returns-clause-as_found : goal.returns-clause-as_found
+returns-clause-as_found c =
+    λ room.
+    let e = c.args.edition in
+    let words = c.args.words.now in
+    let heads = c.args.heads.now in
+    let bits = c.args.bits.now in
+    let counts = c.args.counts.now in
+    let first = c.args.first in
+    let loop = c.loop-place.invariant in
+    let ws = loop.0 in
+    let tables = loop.2 in
+    let place = c.loop-place.place in
+    let start = c.loop-place.start in
+    let part = c.loop-place.part in
+    let count = length c.args.part.now in
+    subst (λ (g : Found). IsAsFound g words first count) (found-same e ws heads bits counts (length words) room loop.1 tables)
+    (tried-all e ws heads bits counts tables words first place start part loop.3 count room (sym loop.4) (omega (arith, c.loop-place-test.false)))
