@@ -1,4 +1,5 @@
 """The work of tools/timed-calls and tools/timed-from-c: builds the peer, runs both, and prints what a call costs.
+tools/timed-collection builds and runs by it too.
 
 usage: timed.py PROGRAM COUNT ROUNDS INSTRUCTIONS TOUCHES      the last two are yes or no: whether instructions are
 counted, and whether the program has the loop of touches too
@@ -39,10 +40,10 @@ class Fault(Exception):
     pass
 
 
-def build(folder):
-    """The peer, with the compiler's usual optimisation for any 64-bit processor."""
+def build(folder, source, *options):
+    """The peer of this source in tools/, with these options of the compiler."""
     peer = Path(folder) / "peer"
-    words = ["-O", "-C", "debuginfo=0", "--edition", "2021", "-o", str(peer), str(HERE / "timed_calls_peer.rs")]
+    words = [*options, "-C", "debuginfo=0", "--edition", "2021", "-o", str(peer), str(HERE / source)]
     if subprocess.run(["rustc", *words]).returncode:
         raise Fault("rustc did not build the peer")
     return peer
@@ -96,7 +97,8 @@ def main():
     if rounds:
         units.append(("nanoseconds", lambda words: run(words)[1], rounds))
     with tempfile.TemporaryDirectory(prefix="timed-calls-") as folder:
-        programs = [program, build(folder)]
+        # the compiler's usual optimisation for any 64-bit processor
+        programs = [program, build(folder, "timed_calls_peer.rs", "-O")]
         print(" " * 26 + "".join(f"{unit + ' a call':>28}" for unit, _, _ in units))
         print(" " * 26 + "".join(f"  {'program':>9} {'peer':>9} {'ratio':>6}" for _ in units), flush=True)
         for title, name, words, calls in loops(count, sys.argv[5] == "yes"):
@@ -105,7 +107,8 @@ def main():
             print(f"{title:26}" + "".join(cost), flush=True)
 
 
-try:
-    main()
-except Fault as fault:
-    sys.exit(f"timed: {fault}")
+if __name__ == "__main__":
+    try:
+        main()
+    except Fault as fault:
+        sys.exit(f"timed: {fault}")

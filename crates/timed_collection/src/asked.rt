@@ -1,0 +1,84 @@
+//! What the words ask.
+use heap_layout::MAX_LARGE_WORDS;
+
+/// What a round does.
+#[derive(Clone, Copy)]
+pub enum Mode {
+    /// Nothing: the heap is only made.
+    Make,
+    /// A survey with no roots.
+    Clear,
+    /// A survey with the root.
+    Mark,
+    /// A slide of all that is live, by one survey with the root that is made before the rounds.
+    Slide,
+    /// A whole collection.
+    Collect,
+    /// A whole collection by threads.
+    CollectByThreads,
+}
+
+/// What the words ask of each mode.
+#[derive(Clone, Copy)]
+pub struct Asked {
+    /// The number of words of the heap.
+    pub words: u32,
+    /// The number of references of each object.
+    pub refs: u16,
+    /// The number of data words of each object.
+    pub data_words: u16,
+    /// How many objects of a hundred are reached.
+    pub live: u32,
+    /// The number of rounds.
+    pub rounds: u32,
+}
+
+impl Asked {
+    /// The number of words of each object.
+    pub fn object_words(self) -> u32 {
+        1 + u32::from(self.refs) + u32::from(self.data_words)
+    }
+
+    /// The number of objects of the heap.
+    pub fn objects(self) -> u32 {
+        self.words.checked_div(self.object_words()).unwrap_or(0)
+    }
+}
+
+// The number that the word at a position is.
+fn number(words: &[String], at: usize) -> Option<u32> {
+    words.get(at)?.parse::<u32>().ok()
+}
+
+// The number of fields that the word at a position is.
+fn fields(words: &[String], at: usize) -> Option<u16> {
+    words.get(at)?.parse::<u16>().ok()
+}
+
+/// What the first five words ask; `None` if they are not five numbers, or if the heap would have too many words.
+pub fn asked_by(words: &[String]) -> Option<Asked> {
+    let asked = Asked {
+        words: number(words, 0)?,
+        refs: fields(words, 1)?,
+        data_words: fields(words, 2)?,
+        live: number(words, 3)?,
+        rounds: number(words, 4)?,
+    };
+    if asked.words as usize > MAX_LARGE_WORDS {
+        return None;
+    }
+    Some(asked)
+}
+
+/// The mode of this name.
+pub fn mode_of(name: &str) -> Option<Mode> {
+    match name {
+        "0" => Some(Mode::Make),
+        "1" => Some(Mode::Clear),
+        "2" => Some(Mode::Mark),
+        "3" => Some(Mode::Slide),
+        "4" => Some(Mode::Collect),
+        "7" => Some(Mode::CollectByThreads),
+        _ => None,
+    }
+}
