@@ -1,5 +1,5 @@
 -- What commands leave of the files.
-use Rattle.std.proofs.Common.{◌≡◌, ℕ, Bool, false, List, Option, Result, Ok, Err, OnErr, IfErr, inl, inr, refl, subst, sym, ◌∙◌}
+use Rattle.std.proofs.Common.{◌≡◌, ℕ, Bool, false, List, Option, Result, Ok, Err, OnErr, OnOk, IfErr, inl, inr, refl, subst, sym, ◌∙◌}
 use Rattle.std.specs.Bool.{MatchBool}
 use Rattle.heap_layout.specs.Heap.{Heap}
 use Rattle.heap_layout.specs.declared.edition.Edition.{Edition}
@@ -93,6 +93,11 @@ module _ {F W : Type 0} (disk : Disk F W) (from to : F) where
   pub read_unmade : (result : Result (Unit {0}) CommandRefusal) → LeavesRead disk from to result → RefusedUnmade disk from to result
   read_unmade (Ok _) h = tt
   read_unmade (Err refusal) h = unmade disk from to refusal h
+
+  -- and one that only reads, and is done, left them as they were
+  pub read_left : (result : Result (Unit {0}) CommandRefusal) → LeavesRead disk from to result → OnOk result (to ≡ from)
+  read_left (Ok _) same = same
+  read_left (Err refusal) h = tt
 
 -- a run that was halted leaves the files as they were
 pub halted_unmade : {F W : Type 0} (disk : Disk F W) (files : F) (refused halted : CommandRefusal) → refused ≡ halted → names_failure halted ≡ false → (before after : Option (List ℕ)) (shown : List Shown)

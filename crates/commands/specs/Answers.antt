@@ -8,14 +8,14 @@ use Rattle.command_io.specs.Printing.{CountsPrint, LeavesFlushed}
 use Rattle.command_io.specs.declared.refusal.CommandRefusal.{CommandRefusal}
 use Rattle.command_io.specs.declared.refusal.CommandRefusal.TheVariants.{OutOfMemory}
 use Rattle.commands.specs.Replays.{StopsUnprinted}
-use Rattle.commands.specs.Tasks.{DoesTask, RefusesTask}
+use Rattle.commands.specs.Tasks.{DoesTask, LeavesFiles, RefusesTask}
 use Rattle.commands.specs.declared.running.Unanswered.{Unanswered}
 use Rattle.commands.specs.declared.running.Unanswered.TheVariants.{Misused, Refused}
 
 -- The words ask for a task, and it is done: what it asks for was written, and these are the files since; and it was
--- printed between these two contents of the output.
-abbrev pub DoesAsked : {F W : Type 0} → Disk F W → F → Option (List ℕ) → Option (List ℕ) → List (List ℕ) → Type 0
-DoesAsked disk to before after words = (task : Task) × Asks words task × DoesTask disk to before after task
+-- printed between these two contents of the output. A task that makes no file left the files as they were.
+abbrev pub DoesAsked : {F W : Type 0} → Disk F W → F → F → Option (List ℕ) → Option (List ℕ) → List (List ℕ) → Type 0
+DoesAsked disk from to before after words = (task : Task) × Asks words task × DoesTask disk to before after task × LeavesFiles from to task
 
 -- What a refusal left. If it is `CannotPrint`, one more call of the output failed. Else none did, and no file was kept;
 -- the files have counted one more failed call if the refusal names one. The output is as it was, unless a line of a

@@ -8,7 +8,7 @@ ghost use Rattle.command_line.specs.Asked.{AsksNoCommand, HasLawfulCounts};
 ghost use Rattle.command_io.specs.Disk.{RefusedUnmade};
 ghost use Rattle.command_io.specs.declared.refusal.CommandRefusal.TheVariants.{OutOfMemory};
 ghost use Rattle.commands.specs.Replays.{StopsUnprinted};
-ghost use Rattle.commands.specs.Tasks.{DoesTask, HasAnswered, RefusesTask};
+ghost use Rattle.commands.specs.Tasks.{DoesTask, HasAnswered, LeavesFiles, RefusesTask};
 ghost use Rattle.commands.specs.Answers.{status_of, DoesAsked, IsUnanswered, LeavesSent};
 ghost use Rattle.commands.specs.declared.running.Unanswered.TheVariants.{Misused, Refused};
 ghost use Rattle.commands.specs.Leaving.{LeavesOutput};
@@ -73,8 +73,8 @@ pub enum Unanswered {
 }
 
 /// Does what the words after the program's name ask for, with these files, and flushes the output. A refusal is that of
-/// their task, with its cause. If they ask for nothing that the program does, neither the files nor the output are
-/// touched. Fewer than `u64::MAX` calls of the output must have failed before.
+/// their task, with its cause. A task that makes no file leaves the files as they were, if it is done. If the words ask
+/// for nothing that the program does, neither the files nor the output are touched. Fewer than `u64::MAX` calls of the output must have failed before.
 pub fn answer<R: Threads + Wait + Sync, F: Files, O: Write>(
     alloc: Global,
     rt: &R,
@@ -83,7 +83,7 @@ pub fn answer<R: Threads + Wait + Sync, F: Files, O: Write>(
     out: &mut Counted<&mut O>,
 ) -> Result<(), Unanswered>
     requires written { failures_of out.old < 2 ^ 64 - 1 }
-    ensures done { OnOk result (DoesAsked (F.disk files.old) files.new (O.contents (inner_of out.old).now) (O.contents (inner_of out.new).now) (map string_bytes words.now)) }
+    ensures done { OnOk result (DoesAsked (F.disk files.old) files.old files.new (O.contents (inner_of out.old).now) (O.contents (inner_of out.new).now) (map string_bytes words.now)) }
     ensures flushed { OnOk result (is_flushed_of out.new ≡ true) }
     ensures counts { OnOk result (failures_of out.new ≡ failures_of out.old) }
     ensures cause { IfErr result (IsUnanswered (F.disk files.old) files.old files.new (failures_of out.old) (failures_of out.new) (O.contents (inner_of out.old).now) (O.contents (inner_of out.new).now) (map string_bytes words.now)) }
@@ -139,6 +139,7 @@ fn perform<R: Threads + Wait + Sync, F: Files, O: Write>(
     ensures cause { IfErr result (RefusesTask (F.disk files.old) files.old files.new (O.contents (inner_of out.old).now) (O.contents (inner_of out.new).now) task.entry) }
     ensures flushed { OnOk result (is_flushed_of out.new ≡ true) }
     ensures output { LeavesOutput StopsUnprinted O.contents out.old out.new result }
+    ensures left { OnOk result (LeavesFiles files.old files.new task.entry) }
     ensures unmade { RefusedUnmade (F.disk files.old) files.old files.new result }
 {
     print_task(alloc, rt, files, task, out)?;
@@ -158,6 +159,7 @@ fn print_task<R: Threads + Wait + Sync, F: Files, O: Write>(
     ensures done { OnOk result (DoesTask (F.disk files.old) files.new (O.contents (inner_of out.old).now) (O.contents (inner_of out.new).now) task.entry) }
     ensures cause { IfErr result (RefusesTask (F.disk files.old) files.old files.new (O.contents (inner_of out.old).now) (O.contents (inner_of out.new).now) task.entry) }
     ensures output { LeavesOutput StopsUnprinted O.contents out.old out.new result }
+    ensures left { OnOk result (LeavesFiles files.old files.new task.entry) }
     ensures unmade { RefusedUnmade (F.disk files.old) files.old files.new result }
 {
     match task {

@@ -19,7 +19,7 @@ use Rattle.comp_handle.specs.Turning.{of_finish, Finishes, FollowsReached, Plans
 use Rattle.comp_handle.specs.declared.answer.Answer.{Answer}
 use Rattle.comp_handle.specs.declared.kept.Kept.{Kept}
 use Rattle.comp_handle.specs.declared.kept.Kept.TheVariants as kept
-use Rattle.proved_crews.specs.Crews.{AreFellows, AreOfOneCrew, KeepsCrew, KeepsEnd, KeepsFlip, KeepsHeap, KeepsMutator, KeepsNext}
+use Rattle.proved_crews.specs.Crews.{AreFellows, AreOfOneCrew, HasGiven, HasTaken, HaveMet, KeepsCrew, KeepsEnd, KeepsFlip, KeepsHeap, KeepsMutator, KeepsNext}
 
 -- an answer with another status
 not_done : {A : Type 0} (a : Answer) (status value : ℕ) → a.status ≡ 0 → a ≡ bare status value → 0 ≢ status → A
@@ -46,20 +46,28 @@ flip_done name n fresh plan old new a flips zero =
     (λ y. ⊎_elim (λ z. not_done a 14 0 zero z.1 (λ w. omega (arith, w))) (λ z. not_done a 9 0 zero z.1 (λ w. omega (arith, w))) y.1) x.2)
     (λ x. absurd (no_plan plan a x.1 zero)) flips
 
-pub take_done : (crew left old new : Option Kept) (a : Answer) → Takes crew left old new a → a.status ≡ 0 → (c : Crew) → KeepsCrew c crew → KeepsCrew c left × KeepsMutator c new
-take_done crew left old new a takes zero c keeps =
+pub take_done : (crew left old new : Option Kept) (a : Answer) → Takes crew left old new a → a.status ≡ 0 → HasTaken crew left new
+take_done crew left old new a takes zero =
     ⊎_elim (λ x.
-    let k = x.0 in
-    let l = x.1 in
-    let m = x.2 in
-    let leaves = x.5 in
-    let same : leaves.0 ≡ keeps.0 = cc (x.3, leaves.2, keeps.1) in
-    let on = ap crew_on same ∙ keeps.2 in
-    ((leaves.1, x.4 ∙ ap (λ (y : Kept). Some y) leaves.3, leaves.4.2 ∙ on), (m, x.6, leaves.4.1 ∙ on)))
+    let leaves = x.5 in (
+      leaves.0,
+      leaves.1,
+      x.2,
+      x.3 ∙ ap (λ (y : Kept). Some y) leaves.2,
+      x.4 ∙ ap (λ (y : Kept). Some y) leaves.3,
+      x.6,
+      leaves.4,
+    ))
     (λ x. ⊎_elim (λ y. not_done a 9 0 zero y (λ w. omega (arith, w)))
     (⊎_elim (λ y. not_done a 10 0 zero y.1 (λ w. omega (arith, w)))
     (λ y. ⊎_elim (λ z. ⊎_elim (λ v. not_done a 18 0 zero v.1 (λ w. omega (arith, w))) (λ v. not_done a 9 0 zero v (λ w. omega (arith, w))) z.2)
     (λ z. not_done a 11 0 zero z.1 (λ w. omega (arith, w))) y.2.1)) x.2) takes
+
+pub taken_from : (crew left own : Option Kept) → HasTaken crew left own → (c : Crew) → KeepsCrew c crew → KeepsCrew c left × KeepsMutator c own
+taken_from crew left own taken c keeps =
+    let same : taken.0 ≡ keeps.0 = cc (taken.3, keeps.1) in
+    let on = ap crew_on same ∙ keeps.2 in
+    ((taken.1, taken.4, taken.6.2 ∙ on), (taken.2, taken.5, taken.6.1 ∙ on))
 
 pub fellows_apart : (first other : Option Kept) → AreFellows first other → AreApart first other
 fellows_apart first other fellows = λ k own e f m o g h named.
@@ -69,16 +77,28 @@ fellows_apart first other fellows = λ k own e f m o g h named.
     let o_is : o ≡ two.0 = cc (two.1, f, h) in
     ap crew_of m_is ∙ one.2 ∙ sym (ap crew_of o_is ∙ two.2)
 
-pub meet_done : (first other left rest : Option Kept) (a : Answer) → Brings first other left rest a → a.status ≡ 0
-    → (c : Crew) → KeepsMutator c first → KeepsMutator c other → KeepsMutator c left × KeepsMutator c rest
-meet_done first other left rest a brings zero c one two =
-    ⊎_elim (λ x. ⊎_elim (λ y.
-    let m_is : y.0 ≡ one.0 = cc (x.4, y.4, one.1) in
-    let o_is : y.1 ≡ two.0 = cc (x.5, y.5, two.1) in
-    ((y.2, x.6 ∙ ap (λ (k : Kept). Some k) y.6, y.8.crew ∙ ap crew_of m_is ∙ one.2), (y.3, x.7 ∙ ap (λ (k : Kept). Some k) y.7, y.8.other_crew ∙ ap crew_of o_is ∙ two.2)))
+pub meet_done : (first other left rest : Option Kept) (a : Answer) → Brings first other left rest a → a.status ≡ 0 → HaveMet first other left rest
+meet_done first other left rest a brings zero =
+    ⊎_elim (λ x. ⊎_elim (λ y. (
+      y.0,
+      y.1,
+      y.2,
+      y.3,
+      x.4 ∙ ap (λ (k : Kept). Some k) y.4,
+      x.5 ∙ ap (λ (k : Kept). Some k) y.5,
+      x.6 ∙ ap (λ (k : Kept). Some k) y.6,
+      x.7 ∙ ap (λ (k : Kept). Some k) y.7,
+      y.8,
+    ))
     (λ y. ⊎_elim (λ z. not_done a 16 0 zero z.0 (λ w. omega (arith, w)))
     (⊎_elim (λ z. not_done a 11 0 zero z.0 (λ w. omega (arith, w))) (λ z. not_done a 11 1 zero z.0 (λ w. omega (arith, w)))) y.2) x.8)
     (λ x. ⊎_elim (λ y. not_done a 10 0 zero y.1 (λ w. omega (arith, w))) (λ y. not_done a 10 1 zero y.1 (λ w. omega (arith, w))) x.2) brings
+
+pub met_of : (first other left rest : Option Kept) → HaveMet first other left rest → (c : Crew) → KeepsMutator c first → KeepsMutator c other → KeepsMutator c left × KeepsMutator c rest
+met_of first other left rest met c one two =
+    let m_is : met.0 ≡ one.0 = cc (met.4, one.1) in
+    let o_is : met.1 ≡ two.0 = cc (met.5, two.1) in
+    ((met.2, met.6, met.8.crew ∙ ap crew_of m_is ∙ one.2), (met.3, met.7, met.8.other_crew ∙ ap crew_of o_is ∙ two.2))
 
 pub own_told : (crew own : Option Kept) → AreOfOneCrew crew own → IsToldFrom crew own
 own_told crew own one = λ k o e f bench m g h named.
@@ -86,14 +106,26 @@ own_told crew own one = λ k o e f bench m g h named.
     let m_is : m ≡ one.2.0 = cc (one.2.1, f, h) in
     ap crew_of m_is ∙ one.2.2 ∙ sym (ap crew_on bench_is ∙ one.1.2)
 
-pub give_done : (crew left own rest : Option Kept) (a : Answer) → Gives crew left own rest a → a.status ≡ 0 → (c : Crew) → KeepsCrew c crew → KeepsCrew c left
-give_done crew left own rest a gives zero c keeps =
-    ⊎_elim (λ x. ⊎_elim (λ y.
-    let same : y.0 ≡ keeps.0 = cc (x.3, y.3, keeps.1) in
-    (y.1, x.5 ∙ ap (λ (k : Kept). Some k) y.5, y.6.1 ∙ ap crew_on same ∙ keeps.2))
+pub give_done : (crew left own rest : Option Kept) (a : Answer) → Gives crew left own rest a → a.status ≡ 0 → HasGiven crew own left rest
+give_done crew left own rest a gives zero =
+    ⊎_elim (λ x. ⊎_elim (λ y. (
+      y.0,
+      y.1,
+      y.2,
+      x.3 ∙ ap (λ (k : Kept). Some k) y.3,
+      x.4 ∙ ap (λ (k : Kept). Some k) y.4,
+      x.5 ∙ ap (λ (k : Kept). Some k) y.5,
+      y.6,
+      y.7,
+    ))
     (λ y. ⊎_elim (λ z. not_done a 16 0 zero z.0 (λ w. omega (arith, w)))
     (⊎_elim (λ z. not_done a 11 0 zero z.0 (λ w. omega (arith, w))) (λ z. not_done a 11 1 zero z.0 (λ w. omega (arith, w)))) y.2) x.6)
     (λ x. ⊎_elim (λ y. not_done a 10 1 zero y.1 (λ w. omega (arith, w))) (λ y. not_done a 10 0 zero y.1 (λ w. omega (arith, w))) x.2) gives
+
+pub given_to : (crew own left rest : Option Kept) → HasGiven crew own left rest → (c : Crew) → KeepsCrew c crew → KeepsCrew c left
+given_to crew own left rest given c keeps =
+    let same : given.0 ≡ keeps.0 = cc (given.3, keeps.1) in
+    (given.1, given.5, given.6.1 ∙ ap crew_on same ∙ keeps.2)
 
 unfinished : (fault : FinishFault) (a : Answer) → a ≡ of_finish fault → a.status ≡ 0 → ⊥
 unfinished finish.OutOfMemory a h zero = not_done a 9 0 zero h (λ z. omega (arith, z))

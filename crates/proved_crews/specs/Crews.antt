@@ -1,7 +1,7 @@
 -- What the handles of a client keep, and a heap that lives through two cycles.
-use Rattle.std.specs.Prelude.{◌≡◌, ◌≢◌, ℕ, List, [], ◌∷◌, Option, Some}
+use Rattle.std.specs.Prelude.{◌≡◌, ◌≢◌, ℕ, List, [], ◌∷◌, Option, None, Some}
 use Rattle.heap_layout.specs.Heap.{Heap}
-use Rattle.comp_crew.specs.Benches.{crew_on}
+use Rattle.comp_crew.specs.Benches.{crew_on, IsGiven, IsTaken}
 use Rattle.comp_crew.specs.Cycles.{heap_after, IsCycleOf, IsOneLife}
 use Rattle.comp_crew.specs.Ends.{cycle_with}
 use Rattle.comp_crew.specs.Finished.{Finished}
@@ -12,6 +12,7 @@ use Rattle.comp_crew.specs.declared.bench.Bench.{Bench}
 use Rattle.comp_crew.specs.declared.crew.Crew.{Crew}
 use Rattle.comp_crew.specs.declared.finishing.Ended.{Ended as End}
 use Rattle.comp_crew.specs.declared.member.Member.{Member}
+use Rattle.comp_handle.specs.Joining.{AreMet}
 use Rattle.comp_handle.specs.declared.kept.Kept.{Kept}
 use Rattle.comp_handle.specs.declared.kept.Kept.TheVariants as kept
 
@@ -34,6 +35,24 @@ KeepsEnd heap k = (e : End) × (k ≡ Some (kept.Ended e)) × (heap_of e ≡ hea
 -- the handle keeps a crew of this name, of a flip of this heap
 abbrev pub KeepsFlip : Heap → ℕ → Option Kept → Type 0
 KeepsFlip heap name k = (crew : Crew) × KeepsCrew crew k × (crew.name ≡ name) × ((setup_in crew).heap ≡ heap)
+
+-- this mutator left the crew that is kept, and another handle keeps it
+abbrev pub HasTaken : Option Kept → Option Kept → Option Kept → Type 0
+HasTaken crew left own =
+    (before : Bench) × (after : Bench) × (m : Member) × (crew ≡ Some (kept.Crew before)) × (left ≡ Some (kept.Crew after)) × (own ≡ Some (kept.Mutator m))
+    × IsTaken before after (Some m)
+
+-- the mutator that was kept went back to the crew, and its handle is empty
+abbrev pub HasGiven : Option Kept → Option Kept → Option Kept → Option Kept → Type 0
+HasGiven crew own left rest =
+    (before : Bench) × (after : Bench) × (m : Member) × (crew ≡ Some (kept.Crew before)) × (own ≡ Some (kept.Mutator m)) × (left ≡ Some (kept.Crew after))
+    × IsGiven before m after × (rest ≡ None)
+
+-- the two mutators that were kept have met
+abbrev pub HaveMet : Option Kept → Option Kept → Option Kept → Option Kept → Type 0
+HaveMet first other left rest =
+    (m : Member) × (o : Member) × (n : Member) × (p : Member) × (first ≡ Some (kept.Mutator m)) × (other ≡ Some (kept.Mutator o))
+    × (left ≡ Some (kept.Mutator n)) × (rest ≡ Some (kept.Mutator p)) × AreMet m o n p
 
 -- the handles keep a crew, and a mutator of it
 abbrev pub AreOfOneCrew : Option Kept → Option Kept → Type 0

@@ -5,7 +5,7 @@ ghost use Rattle.comp_crew.specs.Members.{setup_in};
 ghost use Rattle.comp_crew.specs.declared.crew.Crew.{Crew};
 ghost use Rattle.comp_handle.specs.Crewing.{planned};
 ghost use Rattle.std.specs.Prelude.{Some};
-ghost use Rattle.proved_crews.specs.Crews.{AreFellows, AreOfOneCrew, KeepsCrew, KeepsEnd, KeepsFlip, KeepsHeap, KeepsMutator, KeepsNext};
+ghost use Rattle.proved_crews.specs.Crews.{AreFellows, AreOfOneCrew, HasGiven, HasTaken, HaveMet, KeepsCrew, KeepsEnd, KeepsFlip, KeepsHeap, KeepsMutator, KeepsNext};
 
 use comp_handle::Handle;
 use std::alloc::Global;
@@ -25,9 +25,10 @@ pub fn flip(alloc: Global, plan: &mut Handle, name: u64, n: u32, crew: &mut Hand
     comp_handle::flip_crew(alloc, plan, name, n, 2, crew).status == 0
 }
 
-/// Takes a mutator out of a crew.
+/// Takes a mutator out of a crew, into a handle of its own.
 pub fn take(alloc: Global, crew: &mut Handle, m: &mut Handle) -> bool
-    ensures { IsTrue result → (c : Crew) → KeepsCrew c crew.old.kept → KeepsCrew c crew.new.kept × KeepsMutator c m.new.kept }
+    ensures taken { IsTrue result → HasTaken crew.old.kept crew.new.kept m.new.kept }
+    ensures crews { IsTrue result → (c : Crew) → KeepsCrew c crew.old.kept → KeepsCrew c crew.new.kept × KeepsMutator c m.new.kept }
 {
     comp_handle::take_member(alloc, crew, m).status == 0
 }
@@ -35,15 +36,17 @@ pub fn take(alloc: Global, crew: &mut Handle, m: &mut Handle) -> bool
 /// Lets two mutators of one crew meet.
 pub fn meet(alloc: Global, m: &mut Handle, other: &mut Handle) -> bool
     requires { AreFellows m.old.kept other.old.kept }
-    ensures { IsTrue result → (c : Crew) → KeepsMutator c m.old.kept → KeepsMutator c other.old.kept → KeepsMutator c m.new.kept × KeepsMutator c other.new.kept }
+    ensures met { IsTrue result → HaveMet m.old.kept other.old.kept m.new.kept other.new.kept }
+    ensures crews { IsTrue result → (c : Crew) → KeepsMutator c m.old.kept → KeepsMutator c other.old.kept → KeepsMutator c m.new.kept × KeepsMutator c other.new.kept }
 {
     comp_handle::meet_members(alloc, m, other).status == 0
 }
 
-/// Hands a mutator back to its crew.
+/// Hands a mutator back to its crew. Its handle is empty then.
 pub fn give(alloc: Global, crew: &mut Handle, m: &mut Handle) -> bool
     requires { AreOfOneCrew crew.old.kept m.old.kept }
-    ensures { IsTrue result → (c : Crew) → KeepsCrew c crew.old.kept → KeepsCrew c crew.new.kept }
+    ensures given { IsTrue result → HasGiven crew.old.kept m.old.kept crew.new.kept m.new.kept }
+    ensures crews { IsTrue result → (c : Crew) → KeepsCrew c crew.old.kept → KeepsCrew c crew.new.kept }
 {
     comp_handle::give_member(alloc, crew, m).status == 0
 }

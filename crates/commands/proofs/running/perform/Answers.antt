@@ -17,3 +17,6 @@ returns-clause-cause g c =
 
 pub returns-clause-unmade : goal.returns-clause-unmade
 returns-clause-unmade g c = unmade_line (g.F.Files.disk c.args.files.now) c.args.files.now c.print_task.new.files c.flush.result c.flush.ensures.cause
+
+pub returns-clause-left : goal.returns-clause-left
+returns-clause-left g c = ok_by c.flush.result c.in_ok-print_task.ensures.left

@@ -4,11 +4,12 @@ use Rattle.heap_layout.specs.Writing.{AppendsSome}
 use Rattle.command_line.specs.declared.words.Task.{Task}
 use Rattle.command_line.specs.Runs.{audit_of}
 use Rattle.commands.specs.Audits.{RefusedUnexplained, RefusesAudit, LeavesUnexplained}
-use Rattle.commands.specs.Tasks.{DoesTask, RefusesTask}
+use Rattle.commands.specs.Tasks.{DoesTask, LeavesFiles, RefusesTask}
 use Rattle.command_io.specs.Printing.{help_lines}
 use Rattle.command_io.proofs.Begun.{failed_by}
 use Rattle.command_io.proofs.Outcomes.{unmade_line}
-use Rattle.commands.proofs.FilesLeft.{read_unmade}
+use Rattle.commands.proofs.FilesLeft.{read_left, read_unmade}
+use Rattle.commands.proofs.Performed.{ok_by}
 use Rattle.commands.proofs.ComparedAudits.{both_err, left_unprinted}
 use Rattle.commands.specs.Replays.{StopsUnprinted}
 use Rattle.commands.proofs.Leavings.{line_left, left_by, left_stopped}
@@ -203,3 +204,50 @@ returns-in-Map-clause-output g c = left_stopped g.O.Write.contents c.args.out.no
 
 pub returns-in-Map-clause-unmade : goal.returns-in-Map-clause-unmade
 returns-in-Map-clause-unmade g c = c.print_map.ensures.unmade
+
+pub returns-in-Plan-clause-left : goal.returns-in-Plan-clause-left
+returns-in-Plan-clause-left g c =
+    subst (λ (task : Task). OnOk c.print_plan.result (LeavesFiles c.args.files.now c.print_plan.new.files task)) (sym c.in-Plan.is)
+    (read_left (g.F.Files.disk c.args.files.now) c.args.files.now c.print_plan.new.files c.print_plan.result c.print_plan.ensures.left)
+
+pub returns-in-Word-clause-left : goal.returns-in-Word-clause-left
+returns-in-Word-clause-left g c =
+    subst (λ (task : Task). OnOk c.print_word.result (LeavesFiles c.args.files.now c.print_word.new.files task)) (sym c.in-Word.is)
+    (read_left (g.F.Files.disk c.args.files.now) c.args.files.now c.print_word.new.files c.print_word.result c.print_word.ensures.left)
+
+pub returns-in-Audit-clause-left : goal.returns-in-Audit-clause-left
+returns-in-Audit-clause-left g c =
+    subst (λ (task : Task). OnOk c.print_audit.result (LeavesFiles c.args.files.now c.print_audit.new.files task)) (sym c.in-Audit.is)
+    (read_left (g.F.Files.disk c.args.files.now) c.args.files.now c.print_audit.new.files c.print_audit.result c.print_audit.ensures.left)
+
+pub returns-in-Moved-clause-left : goal.returns-in-Moved-clause-left
+returns-in-Moved-clause-left g c =
+    subst (λ (task : Task). OnOk c.print_moved.result (LeavesFiles c.args.files.now c.print_moved.new.files task)) (sym c.in-Moved.is)
+    (read_left (g.F.Files.disk c.args.files.now) c.args.files.now c.print_moved.new.files c.print_moved.result c.print_moved.ensures.left)
+
+pub returns-in-Replay-clause-left : goal.returns-in-Replay-clause-left
+returns-in-Replay-clause-left g c = subst (λ (task : Task). OnOk c.print_replay.result (LeavesFiles c.args.files.now c.print_replay.new.files task)) (sym c.in-Replay.is) (ok_by c.print_replay.result tt)
+
+pub returns-in-Race-clause-left : goal.returns-in-Race-clause-left
+returns-in-Race-clause-left g c = subst (λ (task : Task). OnOk c.print_race.result (LeavesFiles c.args.files.now c.print_race.new.files task)) (sym c.in-Race.is) (ok_by c.print_race.result tt)
+
+pub returns-in-Compact-clause-left : goal.returns-in-Compact-clause-left
+returns-in-Compact-clause-left g c = subst (λ (task : Task). OnOk c.print_compact.result (LeavesFiles c.args.files.now c.print_compact.new.files task)) (sym c.in-Compact.is) (ok_by c.print_compact.result tt)
+
+pub returns-in-Next-clause-left : goal.returns-in-Next-clause-left
+returns-in-Next-clause-left g c = subst (λ (task : Task). OnOk c.print_next.result (LeavesFiles c.args.files.now c.print_next.new.files task)) (sym c.in-Next.is) (ok_by c.print_next.result tt)
+
+pub returns-in-Mark-clause-left : goal.returns-in-Mark-clause-left
+returns-in-Mark-clause-left g c = subst (λ (task : Task). OnOk c.print_mark.result (LeavesFiles c.args.files.now c.print_mark.new.files task)) (sym c.in-Mark.is) (ok_by c.print_mark.result tt)
+
+pub returns-in-Collect-clause-left : goal.returns-in-Collect-clause-left
+returns-in-Collect-clause-left g c = subst (λ (task : Task). OnOk c.print_collect.result (LeavesFiles c.args.files.now c.print_collect.new.files task)) (sym c.in-Collect.is) (ok_by c.print_collect.result tt)
+
+pub returns-in-Map-clause-left : goal.returns-in-Map-clause-left
+returns-in-Map-clause-left g c = subst (λ (task : Task). OnOk c.print_map.result (LeavesFiles c.args.files.now c.print_map.new.files task)) (sym c.in-Map.is) (ok_by c.print_map.result tt)
+
+pub returns-in-Help-clause-left : goal.returns-in-Help-clause-left
+returns-in-Help-clause-left g c = subst (λ (task : Task). OnOk c.print_help.result (LeavesFiles c.args.files.now c.args.files.now task)) (sym c.in-Help.is) (ok_by c.print_help.result refl)
+
+pub returns-in-Version-clause-left : goal.returns-in-Version-clause-left
+returns-in-Version-clause-left g c = subst (λ (task : Task). OnOk c.print_text.result (LeavesFiles c.args.files.now c.args.files.now task)) (sym c.in-Version.is) (ok_by c.print_text.result refl)
