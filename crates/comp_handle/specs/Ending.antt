@@ -1,7 +1,5 @@
 -- What is read of a finished heap.
 use Rattle.std.specs.Prelude.{◌≡◌, ℕ, ◌<◌, ◌≤◌, ◌⊎◌, List, length, slice_get, Option, None, Some}
-use Rattle.heap_layout.specs.declared.kind.Kind.{Kind}
-use Rattle.heap_layout.specs.declared.kind.Kind.TheVariants as kinds
 use Rattle.comp_journal.specs.Journal.{replayed}
 use Rattle.comp_journal.specs.declared.entry.Entry.{Entry}
 use Rattle.comp_crew.specs.Closing.{page_at}
@@ -9,6 +7,7 @@ use Rattle.comp_crew.specs.Finishes.{builds_in, pages_of}
 use Rattle.comp_crew.specs.Finishing.{finished_of}
 use Rattle.comp_crew.specs.View.{Slot}
 use Rattle.comp_crew.specs.declared.finishing.Ended.{Ended as End}
+use Rattle.comp_dump.specs.Codes.{kind_code}
 use Rattle.comp_handle.specs.Answers.{bare, done, IsPlace}
 use Rattle.comp_handle.specs.declared.answer.Answer.{Answer}
 use Rattle.comp_handle.specs.declared.ending.Question.{Question}
@@ -49,16 +48,9 @@ CopiesPage p slots before after a =
     ((p < length slots) × CopiesSlot (page_at slots p) p before after a)
     ⊎ ((length slots ≤ p) × (after ≡ before) × (a ≡ bare 12 p))
 
--- the number of a kind
-abbrev pub kind_number : Kind → ℕ
-kind_number kinds.Header = 0
-kind_number kinds.Reference = 1
-kind_number kinds.Weak = 2
-kind_number kinds.Data = 3
-
--- an entry, as C sees it
+-- an entry, as C sees it; the kind has its code of dumps
 abbrev pub as_written : Entry → Written
-as_written e = record { stamp = e.stamp; value = e.value; writer = e.writer; kind = kind_number e.kind; offset = e.offset }
+as_written e = record { stamp = e.stamp; value = e.value; writer = e.writer; kind = kind_code e.kind; offset = e.offset }
 
 -- the entry with this number, or there is none
 abbrev pub CopiesOf : Option Entry → ℕ → Written → Written → Answer → Type 0

@@ -31,8 +31,9 @@ fn most_fresh(plan: &Plan) -> u64
     ensures { result ≡ most_fresh plan.now }
 {
     let edition = plan.heap().edition();
-    let rest = u64::from(edition.max_pages()) - plan.pages();
-    u64::from(edition.max_fresh_pages()).min(rest)
+    let most = edition.max_fresh_pages();
+    let rest = u64::from(edition.max_pages() - most) - plan.pages();
+    u64::from(most).min(rest)
 }
 
 // A share of a plan, for a crew of these counts.

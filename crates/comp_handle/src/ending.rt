@@ -1,6 +1,7 @@
 //! What is left of a crew, by its handle.
 ghost use Rattle.std.specs.Prelude.{◌≡◌, None, Some, MatchOption};
-ghost use Rattle.comp_handle.specs.Ending.{built_by, kind_number, pages_at_end, CopiesEntry, CopiesPage, IsBuildOf, IsCountOf, Tells};
+ghost use Rattle.comp_handle.specs.Ending.{built_by, pages_at_end, CopiesEntry, CopiesPage, IsBuildOf, IsCountOf, Tells};
+ghost use Rattle.comp_dump.specs.Codes.{kind_code};
 ghost use Rattle.comp_handle.specs.Kinds.{end_in, Asks};
 
 use crate::answer::Answer;
@@ -109,8 +110,8 @@ pub fn page_words(alloc: Global, h: &mut Handle, p: u64, out: &mut [u64; 64]) ->
     answer
 }
 
-/// An entry of a journal, as C sees it. The kind is 0 for a header, 1 for a reference, 2 for a weak word and 3 for a
-/// data word.
+/// An entry of a journal, as C sees it. The kind is 0 for a header, 1 for a reference, 2 for a data word and 3 for a
+/// weak word, as in a dump.
 #[repr(C)]
 #[derive(Clone, Copy, Debug, PartialEq, Eq)]
 pub struct Written {
@@ -128,13 +129,13 @@ pub struct Written {
 
 // The number of a kind.
 fn kind_number(kind: Kind) -> u8
-    ensures { result ≡ kind_number kind }
+    ensures { result ≡ kind_code kind }
 {
     match kind {
         Kind::Header => 0,
         Kind::Reference => 1,
-        Kind::Weak => 2,
-        Kind::Data => 3,
+        Kind::Data => 2,
+        Kind::Weak => 3,
     }
 }
 
