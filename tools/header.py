@@ -53,6 +53,12 @@ LIMITS = {
     "MAX_ENTRIES": "MAX_ENTRIES",
     "MAX_MUTATORS": "MAX_MUTATORS",
 }
+# What an inline function answers for editions one and two, and for the later ones.
+BY_EDITION = {
+    "max_words": ("MAX_WORDS", "MAX_LARGE_WORDS"),
+    "max_object_words": ("MAX_OBJECT_WORDS", "MAX_LARGE_WORDS"),
+    "max_roots": ("MAX_ROOTS", "MAX_LARGE_ROOTS"),
+}
 
 
 def bare(text):
@@ -156,6 +162,12 @@ def compare(crates):
         want = number(re.search(rf"pub const {own}: \w+ = (.*);", limits).group(1))
         if have != want:
             yield f"{name}: the header has {have}, heap_layout has {want}"
+    for name, owns in BY_EDITION.items():
+        said = re.search(rf"compressor_{name}\(uint32_t edition\) \{{\s*return edition < 3 \? (.*?) : (.*?);", text)
+        for have, own in zip(said.groups(), owns):
+            want = number(re.search(rf"pub const {own}: \w+ = (.*);", limits).group(1))
+            if number(have) != want:
+                yield f"compressor_{name}: the header has {have}, {own} is {want}"
     parts = [int(re.search(rf"#define COMPRESSOR_VERSION_{it} (\d+)", text).group(1)) for it in ("MAJOR", "MINOR", "PATCH")]
     version = int(re.search(r"fn compressor_version\(\).*?\n\{\n    (\w+)\n", exports, flags=re.S).group(1).replace("_", ""))
     said = re.search(r'COMPRESSOR_VERSION_TEXT "([\d.]*)', text).group(1)
