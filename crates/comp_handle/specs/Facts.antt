@@ -1,5 +1,5 @@
 -- What plain structs say of a mutator, and of a finished cycle.
-use Rattle.std.specs.Prelude.{◌≡◌, ℕ, ◌-◌, ◌*◌, length, Option}
+use Rattle.std.specs.Prelude.{◌≡◌, ◌*◌, length}
 use Rattle.heap_layout.specs.Versions.{version_of}
 use Rattle.comp_crew.specs.Finishes.{edition_in, live_of, pages_of, roots_of}
 use Rattle.comp_crew.specs.Finishing.{finished_of, setup_at_end}
@@ -26,6 +26,7 @@ facts_of m = record {
   edition = version_of (setup_of m).heap.edition;
   mutators = (setup_of m).mutators;
   number = number_of (pass_of m);
+  unused = 0;
 }
 
 -- they are copied; the words that it made are those of its allocations
@@ -42,7 +43,6 @@ facts_at_end e = record {
   roots = length (roots_of (finished_of e));
   edition = version_of (edition_in (finished_of e));
   mutators = (setup_at_end e).mutators;
-  unused = 0;
 }
 
 -- they are copied

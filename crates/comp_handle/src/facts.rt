@@ -1,7 +1,7 @@
 //! Counts are copied into plain structs, which anybody may read.
 ghost use Rattle.std.specs.Prelude.{◌≡◌, ◌*◌, length};
 ghost use Rattle.heap_layout.specs.Versions.{version_of};
-ghost use Rattle.comp_crew.specs.Finishes.{pages_of, roots_of};
+ghost use Rattle.comp_crew.specs.Finishes.{pages_of};
 ghost use Rattle.comp_crew.specs.Finishing.{finished_of, setup_at_end, IsEnded};
 ghost use Rattle.comp_crew.specs.Members.{setup_of};
 ghost use Rattle.comp_handle.specs.Facts.{facts_at_end, facts_of, Counts, CountsEnd};
@@ -29,13 +29,15 @@ pub struct MutatorFacts {
     /// The words of all objects that it allocated.
     pub made_words: u64,
     /// The roots of the heap.
-    pub roots: u32,
+    pub roots: u64,
     /// The edition of the heap, 1 to 4.
     pub edition: u32,
     /// The mutators of the crew.
     pub mutators: u32,
     /// The number of this one.
     pub number: u32,
+    /// 0.
+    pub unused: u32,
 }
 
 /// The counts of a finished cycle, as C sees them.
@@ -51,13 +53,11 @@ pub struct EndFacts {
     /// The words of all pages.
     pub rest_words: u64,
     /// The roots.
-    pub roots: u32,
+    pub roots: u64,
     /// The edition of the heap, 1 to 4.
     pub edition: u32,
     /// The mutators of the crew.
     pub mutators: u32,
-    /// 0.
-    pub unused: u32,
 }
 
 // The number of an edition.
@@ -73,10 +73,11 @@ fn number_of(edition: Edition) -> u32
 }
 
 // How many roots a mutator's heap has.
-fn root_count(m: &Member) -> u32
+#[tactic(auto, using(crate::proofs::Counts::many))]
+fn root_count(m: &Member) -> u64
     ensures { result ≡ length (setup_of m.now).heap.roots }
 {
-    m.roots().len() as u32
+    m.roots().len() as u64
 }
 
 // The counts of a mutator.
@@ -93,6 +94,7 @@ fn facts_of(m: &Member) -> MutatorFacts
         edition: number_of(m.edition()),
         mutators: u32::from(m.mutators()),
         number: u32::from(m.number()),
+        unused: 0,
     }
 }
 
@@ -120,15 +122,8 @@ pub fn mutator_facts(alloc: Global, h: &mut Handle, out: &mut MutatorFacts) -> A
     answer
 }
 
-// How many roots a finished heap has.
-fn end_root_count(e: &Ended) -> u32
-    requires { IsEnded e.now }
-    ensures { result ≡ length (roots_of (finished_of e.now)) }
-{
-    e.finished().roots().len() as u32
-}
-
 // How many pages of a finished heap are compacted ones.
+#[tactic(auto, using(crate::proofs::Counts::fresh_within, crate::proofs::Counts::all_but_fresh))]
 fn compacted_at_end(e: &Ended) -> u64
     requires { IsEnded e.now }
     ensures { result ≡ (setup_at_end e.now).compacted }
@@ -155,10 +150,9 @@ fn facts_at_end(e: &Ended) -> EndFacts
         pages: finished.pages().len() as u64,
         compacted_pages: compacted_at_end(e),
         rest_words: words_at_end(e),
-        roots: end_root_count(e),
+        roots: finished.roots().len() as u64,
         edition: number_of(finished.edition()),
         mutators: u32::from(e.mutators()),
-        unused: 0,
     }
 }
 

@@ -166,10 +166,11 @@ typedef struct compressor_mutator_facts {
     uint64_t builds;          /* pages that this mutator built */
     uint64_t entries;         /* writes and allocations of this mutator */
     uint64_t made_words;      /* of all objects that it allocated */
-    uint32_t roots;
+    uint64_t roots;
     uint32_t edition;
     uint32_t mutators;        /* of the crew */
     uint32_t number;
+    uint32_t unused;
 } compressor_mutator_facts;
 
 typedef struct compressor_end_facts {
@@ -177,10 +178,9 @@ typedef struct compressor_end_facts {
     uint64_t pages;
     uint64_t compacted_pages;
     uint64_t rest_words;      /* of all pages: 64 a page */
-    uint32_t roots;
+    uint64_t roots;
     uint32_t edition;
     uint32_t mutators;
-    uint32_t unused;
 } compressor_end_facts;
 
 /* CONSTANTS (docs/FORMATS.md) */
@@ -443,9 +443,9 @@ COMPRESSOR_ASSERT_(offsetof(compressor_answer, value) == 8, "answer");
 COMPRESSOR_ASSERT_(sizeof(compressor_entry) == 24 && offsetof(compressor_entry, writer) == 16, "entry");
 COMPRESSOR_ASSERT_(offsetof(compressor_entry, kind) == 17 && offsetof(compressor_entry, offset) == 18, "entry");
 COMPRESSOR_ASSERT_(sizeof(compressor_shape) == 16 && offsetof(compressor_shape, tag) == 12, "shape");
-COMPRESSOR_ASSERT_(sizeof(compressor_mutator_facts) == 56 && offsetof(compressor_mutator_facts, number) == 52,
+COMPRESSOR_ASSERT_(sizeof(compressor_mutator_facts) == 64 && offsetof(compressor_mutator_facts, unused) == 60,
                    "mutator facts");
-COMPRESSOR_ASSERT_(sizeof(compressor_end_facts) == 48 && offsetof(compressor_end_facts, mutators) == 40, "end facts");
+COMPRESSOR_ASSERT_(sizeof(compressor_end_facts) == 48 && offsetof(compressor_end_facts, mutators) == 44, "end facts");
 
 #ifdef __cplusplus
 }
