@@ -14,6 +14,6 @@ returns-clause-fault c =
     let same : given edition words marks roots ≡ given edition c.args.words.now c.args.marks.now c.args.roots.now =
     ap (λ (l : List ℕ). given edition l marks roots) c.in_ok-words.ensures ∙ ap (λ (l : List ℕ). given edition c.args.words.now l roots) c.in_ok-marks.ensures
     ∙ ap (λ (l : List ℕ). given edition c.args.words.now c.args.marks.now l) c.in_ok-roots.ensures in
-    let few = subst (λ (heap : Heap). AreFew heap.edition heap.words heap.marks heap.roots) (sym same) c.in_ok.ensures in
+    let few = subst (λ (heap : Heap). AreFew heap.edition heap.words heap.marks heap.roots) (sym same) c.in_ok-check_sizes.ensures in
     subst (λ (heap : Heap). IfErr c.from_parts_of.result (IsWhy heap)) same
     (err_more c.from_parts_of.result (λ fault h. why_answered edition (given edition words marks roots) fault few h) c.from_parts_of.ensures.fault)
