@@ -269,16 +269,26 @@ module _ (words : List (List ℕ)) (f : Found) (asked : CommandAsked words f com
 
 -- ---- `mark`
 
--- the words are `mark`, with the paths that were found
-pub mark_asked : (words : List (List ℕ)) (f : Found) → CommandAsked words f mark_form → (image new : List ℕ) (b : Bool) → Some image ≡ first_value f (codes "IMAGE")
-    → Some new ≡ first_value f (codes "NEW") → IsFlag (one_text f (codes "large")) b → AsksMark words image new b
-mark_asked words f asked image new b at_image at_new flag = record {
-  uses = asked.given;
-  is_command = asked.is_command;
-  with_image = argument_reported words f mark_form asked (text (codes "IMAGE")) refl image at_image;
-  with_new = argument_reported words f mark_form asked (text (codes "NEW")) refl new at_new;
-  with_large = switch_reported words f mark_form asked large refl b flag;
-}
+module _ (words : List (List ℕ)) (f : Found) (asked : CommandAsked words f mark_form) where
+  -- what `--workers` takes was found, if anything
+  pub markers_fit : IfSome (one_text f (codes "workers")) (Takes workers.takes)
+  markers_fit = choice_fits words f mark_form asked workers refl
+
+  -- the number that was read is within the bounds
+  pub markers_within : (n : ℕ) → IsNumberOr 2 (one_text f (codes "workers")) n → (1 ≤ n) × (n ≤ 64)
+  markers_within n h = within_bounds (one_text f (codes "workers")) 2 1 64 n (omega arith) (omega arith) markers_fit h
+
+  -- and the words are `mark`, with these paths and this number
+  pub mark_asked : (image new : List ℕ) (n : ℕ) (b : Bool) → Some image ≡ first_value f (codes "IMAGE") → Some new ≡ first_value f (codes "NEW")
+      → IsNumberOr 2 (one_text f (codes "workers")) n → IsFlag (one_text f (codes "large")) b → AsksMark words image new n b
+  mark_asked image new n b at_image at_new h flag = record {
+    uses = asked.given;
+    is_command = asked.is_command;
+    with_image = argument_reported words f mark_form asked (text (codes "IMAGE")) refl image at_image;
+    with_new = argument_reported words f mark_form asked (text (codes "NEW")) refl new at_new;
+    with_workers = choice_reported words f mark_form asked workers refl n h;
+    with_large = switch_reported words f mark_form asked large refl b flag;
+  }
 
 -- ---- `collect`
 
@@ -376,7 +386,7 @@ answer_counts error (Ok (Race run)) answer = absurd answer
 answer_counts error (Ok (Compact image dump n b)) answer = absurd answer
 answer_counts error (Ok (Audit audit)) answer = _
 answer_counts error (Ok (Next next)) answer = absurd answer
-answer_counts error (Ok (Mark image new b)) answer = _
+answer_counts error (Ok (Mark image new n b)) answer = absurd answer
 answer_counts error (Ok (Collect image new n b)) answer = absurd answer
 answer_counts error (Ok (Moved image moved b)) answer = _
 answer_counts error (Ok (Map run)) answer = _
@@ -402,7 +412,7 @@ module _ (forms : List Form) (is : IsProgram forms) (words : List (List ℕ)) (s
   answer_reported error (Ok (Compact image dump n b)) kind answer = absurd answer
   answer_reported error (Ok (Audit audit)) kind answer = absurd answer
   answer_reported error (Ok (Next next)) kind answer = absurd answer
-  answer_reported error (Ok (Mark image new b)) kind answer = absurd answer
+  answer_reported error (Ok (Mark image new n b)) kind answer = absurd answer
   answer_reported error (Ok (Collect image new n b)) kind answer = absurd answer
   answer_reported error (Ok (Moved image moved b)) kind answer = absurd answer
   answer_reported error (Ok (Map run)) kind answer = absurd answer

@@ -154,7 +154,7 @@ module _ (forms : List Form) (program_is : IsProgram forms) (words : List Text) 
     no_compact = λ image dump n large asks. refused_command compact_form has.compact fails asks.uses asks.is_command;
     no_audit = λ audit asks. refused_command audit_form has.audit fails asks.uses asks.is_command;
     no_next = λ next asks. refused_command (next_form said) has.next fails asks.uses (next_asked_as said is next asks);
-    no_mark = λ image new large asks. refused_command mark_form has.mark fails asks.uses asks.is_command;
+    no_mark = λ image new n large asks. refused_command mark_form has.mark fails asks.uses asks.is_command;
     no_collect = λ image new n large asks. refused_command collect_form has.collect fails asks.uses asks.is_command;
     no_moved = λ image moved large asks. refused_command moved_form has.moved fails asks.uses asks.is_command;
     no_map = λ mapping asks. refused_command map_form has.map fails asks.uses asks.is_command;

@@ -60,13 +60,14 @@ pub record AsksAudit (words : List (List ℕ)) (audit : Audit) : Type 0 where
   pub with_explain : audit.explain ≡ is_among (codes "explain") uses
   pub with_large : audit.large ≡ is_among (codes "large") uses
 
--- the words are `mark [--large] IMAGE NEW`, with these paths of an image and of the new image, and with the switch or
--- without it
-pub record AsksMark (words : List (List ℕ)) (image new : List ℕ) (is_large : Bool) : Type 0 where
+-- the words are `mark [--workers N] [--large] IMAGE NEW`, with these paths of an image and of the new image, and this
+-- number of workers, and with the switch or without it
+pub record AsksMark (words : List (List ℕ)) (image new : List ℕ) (n : ℕ) (is_large : Bool) : Type 0 where
   pub uses : List Use
   pub is_command : IsCommandWith mark_form words uses
   pub with_image : text_given (codes "IMAGE") uses ≡ Some image
   pub with_new : text_given (codes "NEW") uses ≡ Some new
+  pub with_workers : IsChosen workers uses n
   pub with_large : is_large ≡ is_among (codes "large") uses
 
 -- the words are `collect [--workers N] [--large] IMAGE NEW`, with these paths of an image and of the new image, and this
@@ -97,7 +98,7 @@ pub record AsksNoCommand (words : List (List ℕ)) : Type 0 where
   pub no_compact : (image dump : List ℕ) (n : ℕ) (is_large : Bool) → ¬ (AsksCompact words image dump n is_large)
   pub no_audit : (audit : Audit) → ¬ (AsksAudit words audit)
   pub no_next : (next : Next) → ¬ (AsksNext words next)
-  pub no_mark : (image new : List ℕ) (is_large : Bool) → ¬ (AsksMark words image new is_large)
+  pub no_mark : (image new : List ℕ) (n : ℕ) (is_large : Bool) → ¬ (AsksMark words image new n is_large)
   pub no_collect : (image new : List ℕ) (n : ℕ) (is_large : Bool) → ¬ (AsksCollect words image new n is_large)
   pub no_moved : (image moved : List ℕ) (is_large : Bool) → ¬ (AsksMoved words image moved is_large)
   pub no_map : (mapping : Mapping) → ¬ (AsksMap words mapping)
@@ -127,7 +128,7 @@ Asks words (Race run) = AsksRace words (run_of run)
 Asks words (Compact image dump n is_large) = AsksCompact words image.now dump.now n is_large
 Asks words (tasks.Audit audit) = AsksAudit words (audit_of audit)
 Asks words (tasks.Next next) = AsksNext words (next_of next)
-Asks words (Mark image new is_large) = AsksMark words image.now new.now is_large
+Asks words (Mark image new n is_large) = AsksMark words image.now new.now n is_large
 Asks words (Collect image new n is_large) = AsksCollect words image.now new.now n is_large
 Asks words (Moved image moved is_large) = AsksMoved words image.now moved.now is_large
 Asks words (tasks.Map run) = AsksMap words (map_of run)
@@ -143,7 +144,7 @@ HasLawfulCounts (Race run) = IsLawfulRun (run_of run)
 HasLawfulCounts (Compact image dump n is_large) = (1 ≤ n) × (n ≤ 64)
 HasLawfulCounts (tasks.Audit audit) = Unit {0}
 HasLawfulCounts (tasks.Next next) = IsLawfulNext (next_of next)
-HasLawfulCounts (Mark image new is_large) = Unit {0}
+HasLawfulCounts (Mark image new n is_large) = (1 ≤ n) × (n ≤ 64)
 HasLawfulCounts (Collect image new n is_large) = (1 ≤ n) × (n ≤ 64)
 HasLawfulCounts (Moved image moved is_large) = Unit {0}
 HasLawfulCounts (tasks.Map run) = Unit {0}
@@ -159,7 +160,7 @@ IsAnswerOf kind (Race run) = ⊥
 IsAnswerOf kind (Compact image dump n is_large) = ⊥
 IsAnswerOf kind (tasks.Audit audit) = ⊥
 IsAnswerOf kind (tasks.Next next) = ⊥
-IsAnswerOf kind (Mark image new is_large) = ⊥
+IsAnswerOf kind (Mark image new n is_large) = ⊥
 IsAnswerOf kind (Collect image new n is_large) = ⊥
 IsAnswerOf kind (Moved image moved is_large) = ⊥
 IsAnswerOf kind (tasks.Map run) = ⊥

@@ -133,9 +133,14 @@ next_options false = mutators ∷ fresh ∷ []
 abbrev pub next_form : Bool → Form
 next_form by_reach = record { name = codes "next"; options = next_options by_reach; switches = large ∷ reachable ∷ []; arguments = next_paths by_reach }
 
--- `mark [--large] IMAGE NEW`
+-- `mark [--workers N] [--large] IMAGE NEW`
 abbrev pub mark_form : Form
-mark_form = record { name = codes "mark"; options = []; switches = large ∷ []; arguments = text (codes "IMAGE") ∷ text (codes "NEW") ∷ [] }
+mark_form = record {
+  name = codes "mark";
+  options = workers ∷ [];
+  switches = large ∷ [];
+  arguments = text (codes "IMAGE") ∷ text (codes "NEW") ∷ [];
+}
 
 -- `collect [--workers N] [--large] IMAGE NEW`
 abbrev pub collect_form : Form

@@ -57,10 +57,12 @@ pub enum Task<'a> {
     Audit(AuditRun<'a>),
     /// Run a trace as `replay` does, then make the next heap with the new marks, and write its image to a path.
     Next(NextRun<'a>),
-    /// Mark the objects that the roots of the heap in an image reach, and write the new image to a path.
+    /// Mark the objects that the roots of the heap in an image reach, with 1 to 64 workers, and write the new image to a
+    /// path.
     Mark {
         image: &'a str,
         new: &'a str,
+        workers: u8,
         /// Whether heaps of editions three and four are read as well.
         large: bool,
     },
@@ -160,11 +162,16 @@ fn task_of<'a>(words: &'a [String], matches: &ArgMatches<'a>, reaches: bool) -> 
         },
         "audit" => Task::Audit(audit_run(found)),
         "next" => Task::Next(next_run(found, reaches)),
-        "mark" => Task::Mark {
-            image: text_of(found, "IMAGE"),
-            new: text_of(found, "NEW"),
-            large: is_large(found),
-        },
+        "mark" => {
+            let marked = text_of(found, "NEW");
+            let markers = count_of(found, "workers", DEFAULT_WORKERS) as u8;
+            Task::Mark {
+                image: text_of(found, "IMAGE"),
+                new: marked,
+                workers: markers,
+                large: is_large(found),
+            }
+        }
         "collect" => {
             let new = text_of(found, "NEW");
             let workers = count_of(found, "workers", DEFAULT_WORKERS) as u8;
@@ -338,7 +345,8 @@ fn mark_command<'a>(alloc: Global) -> Made<'a>
         "mark",
         "Marks the objects that the roots reach, and writes the new image",
     );
-    let of_switch = with_argument(mark, large_switch(alloc));
+    let of_workers = with_argument(mark, workers_option(alloc));
+    let of_switch = with_argument(of_workers, large_switch(alloc));
     let of_image = with_argument(of_switch, image_argument(alloc));
     with_argument(of_image, new_argument(alloc))
 }

@@ -15,23 +15,26 @@ ghost use Rattle.commands.specs.Leaving.{LeavesOutput};
 use crate::live::live_words;
 use command_io::{CommandRefusal, Files, parts_at, print_line, write_image_to};
 use heap_layout::{Counted, ImageParts, MarkedHeap};
-use reachability::reachable_heap;
+use reachability::reachable_heap_by_threads;
 use std::alloc::Global;
 use std::io::Write;
+use std::thread::Threads;
 
 /// The command `mark`.
 ///
 /// It reads the image at `image`, of edition three or four only if `large`. Whatever marks it has, it marks exactly the
-/// objects that the roots reach, and checks the heap with these marks. It writes the image of that heap to `new`, and
+/// objects that the roots reach, in up to so many threads, and checks the heap with these marks. It writes the image of that heap to `new`, and
 /// flushes it. Last it prints the live words. Fewer than `u64::MAX` calls of the output must have failed before.
 ///
 /// The first of these steps that is refused ends it. A refusal other than `CannotPrint` prints nothing. The new image
 /// is created only after that heap was made. If a call of its writer fails, the writer has taken a beginning of it.
-pub fn print_mark<F: Files, O: Write>(
+pub fn print_mark<R: Threads + Sync, F: Files, O: Write>(
     alloc: Global,
+    rt: &R,
     files: &mut F,
     image: &str,
     new: &str,
+    workers: u8,
     large: bool,
     out: &mut Counted<&mut O>,
 ) -> Result<(), CommandRefusal>
@@ -41,15 +44,17 @@ pub fn print_mark<F: Files, O: Write>(
     ensures unmade { RefusedUnmade (F.disk files.old) files.old files.new result }
     ensures output { LeavesOutput RefusedUnprinted O.contents out.old out.new result }
 {
-    let heap = marked_heap(alloc, files, image, large)?;
+    let heap = marked_heap(alloc, rt, files, image, workers, large)?;
     write_marked(files, new, &heap, out)
 }
 
 // The heap whose parts the image at a path has, marked by its roots.
-fn marked_heap<F: Files>(
+fn marked_heap<R: Threads + Sync, F: Files>(
     alloc: Global,
+    rt: &R,
     files: &mut F,
     path: &str,
+    workers: u8,
     large: bool,
 ) -> Result<MarkedHeap, CommandRefusal>
     ensures marked { IfOk result (λ heap. SomePartsAt (F.disk files.old) large path.now (λ parts. IsMarkedHeap parts heap)) }
@@ -57,17 +62,29 @@ fn marked_heap<F: Files>(
     ensures left { LeavesRead (F.disk files.old) files.old files.new result }
 {
     let parts = parts_at(alloc, files, path, large)?;
-    mark_by_roots(alloc, parts)
+    mark_by_roots(alloc, rt, parts, workers)
 }
 
 // The heap of these parts, marked by its roots.
-fn mark_by_roots(alloc: Global, parts: ImageParts) -> Result<MarkedHeap, CommandRefusal>
+fn mark_by_roots<R: Threads + Sync>(
+    alloc: Global,
+    rt: &R,
+    parts: ImageParts,
+    workers: u8,
+) -> Result<MarkedHeap, CommandRefusal>
     ensures marked { IfOk result (IsMarkedHeap (heap_in parts)) }
     ensures cause { IfErr result (IsUnmarkable (heap_in parts)) }
 {
     reachability::reachable_once();
     drop(parts.marks);
-    let heap = reachable_heap(alloc, parts.edition, parts.words, parts.roots)?;
+    let heap = reachable_heap_by_threads(
+        alloc,
+        rt,
+        usize::from(workers),
+        parts.edition,
+        parts.words,
+        parts.roots,
+    )?;
     Ok(heap)
 }
 

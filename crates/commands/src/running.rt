@@ -179,7 +179,12 @@ fn print_task<R: Threads + Wait + Sync, F: Files, O: Write>(
         } => print_compact(alloc, rt, files, image, dump, workers, large, out),
         Task::Audit(run) => print_audit(alloc, rt, files, run, out),
         Task::Next(run) => print_next(alloc, rt, files, run, out),
-        Task::Mark { image, new, large } => print_mark(alloc, files, image, new, large, out),
+        Task::Mark {
+            image,
+            new,
+            workers,
+            large,
+        } => print_mark(alloc, rt, files, image, new, workers, large, out),
         Task::Collect {
             image,
             new,

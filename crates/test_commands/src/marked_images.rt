@@ -38,9 +38,11 @@ fn mark(
     let mut counted = Counted::new(&mut *out);
     print_mark(
         rt.alloc(),
+        rt,
         place,
         marking.image,
         marking.path,
+        2,
         false,
         &mut counted,
     )

@@ -206,19 +206,19 @@ static TASKS: [AskedTask; 58] = [
     ),
     (
         "mark three.img new.img",
-        "Mark { image: \"three.img\", new: \"new.img\", large: false }",
+        "Mark { image: \"three.img\", new: \"new.img\", workers: 2, large: false }",
     ),
     (
-        "mark a --large b",
-        "Mark { image: \"a\", new: \"b\", large: true }",
+        "mark --workers 64 a --large b",
+        "Mark { image: \"a\", new: \"b\", workers: 64, large: true }",
     ),
     (
         "mark a -- --large",
-        "Mark { image: \"a\", new: \"--large\", large: false }",
+        "Mark { image: \"a\", new: \"--large\", workers: 2, large: false }",
     ),
     (
         "mark -- mark --",
-        "Mark { image: \"mark\", new: \"--\", large: false }",
+        "Mark { image: \"mark\", new: \"--\", workers: 2, large: false }",
     ),
     (
         "collect three.img new.img",

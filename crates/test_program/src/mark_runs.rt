@@ -9,6 +9,9 @@ use test_support::{
 // The marking of the image written last.
 const MARK: &str = "mark mark.tests.img mark.tests.new";
 
+// The same by one worker.
+const MARK_ALONE: &str = "mark --workers 1 mark.tests.img mark.tests.new";
+
 // The plan of that image, and of the new one.
 const OLD_PLAN: &str = "plan mark.tests.img";
 
@@ -31,7 +34,7 @@ pub const MARKED: &[Step] = &[
         OLD_PLAN,
         "live 7\npages 1\npage 0 first 0\nroot 0 8589934597\n",
     ),
-    Step::Prints(MARK, "live 4\n"),
+    Step::Prints(MARK_ALONE, "live 4\n"),
     Step::Holds("mark.tests.new", Content::ThreeImage),
     Step::Prints("compact mark.tests.new mark.tests.out", "live 4\n"),
     Step::Prints("audit mark.tests.new mark.tests.out", "ok 4\n"),

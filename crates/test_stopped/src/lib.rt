@@ -9,6 +9,10 @@ mod drawn_faults;
 #[cfg(test)]
 mod drawn_heaps;
 #[cfg(test)]
+mod drawn_in_place;
+#[cfg(test)]
+mod drawn_lent;
+#[cfg(test)]
 mod drawn_surveys;
 #[cfg(test)]
 mod expected;

@@ -10,7 +10,7 @@ use Rattle.command_line.specs.Maps.{map_of}
 use Rattle.command_line.specs.Nexts.{next_of}
 use Rattle.command_line.specs.Runs.{audit_of, run_of}
 use Rattle.command_line.proofs.TopLevel.{IsCommand, standing_audit, standing_collect, standing_compact, standing_map, standing_mark, standing_moved, standing_next, standing_plan, standing_program, standing_race, standing_replay, standing_word}
-use Rattle.command_line.proofs.Found.{CommandAsked, argument_there, bounded_number, collect_asked, collectors_fit, collectors_within, command_asked, compact_asked, entered_as, index_there, mark_asked, none_entered, none_of_standing, plan_asked, run_asked, run_found, same_name, texts_utf8, word_asked, workers_fit, workers_within}
+use Rattle.command_line.proofs.Found.{CommandAsked, argument_there, bounded_number, collect_asked, collectors_fit, collectors_within, command_asked, compact_asked, entered_as, index_there, mark_asked, markers_fit, markers_within, none_entered, none_of_standing, plan_asked, run_asked, run_found, same_name, texts_utf8, word_asked, workers_fit, workers_within}
 use Rattle.command_line.proofs.AuditFound.{audit_asked, audit_found}
 use Rattle.command_line.proofs.MapFound.{map_asked, map_found}
 use Rattle.command_line.proofs.MovedFound.{moved_asked}
@@ -156,18 +156,36 @@ text_of-requires-in-mark c =
     let given = given_to c.args.reaches mark_form (standing_mark c.args.reaches) c.args.words.now c.args.matches.now c.in-Some.name.now f c.in-mark.is c.requires.taken c.requires.found c.in-Some.ensures.name c.in-Some.ensures.rows in
     argument_there (map string_bytes c.args.words.now) f mark_form given (text (codes "IMAGE")) refl
 
-pub text_of-requires-in-mark-2 : goal.text_of-requires-in-mark-2
-text_of-requires-in-mark-2 c =
+pub text_of-marked-requires : goal.text_of-marked-requires
+text_of-marked-requires c =
     let f = found_of c.in-Some.found.now in
     let given = given_to c.args.reaches mark_form (standing_mark c.args.reaches) c.args.words.now c.args.matches.now c.in-Some.name.now f c.in-mark.is c.requires.taken c.requires.found c.in-Some.ensures.name c.in-Some.ensures.rows in
     argument_there (map string_bytes c.args.words.now) f mark_form given (text (codes "NEW")) refl
+
+pub count_of-markers-requires : goal.count_of-markers-requires
+count_of-markers-requires c =
+    let f = found_of c.in-Some.found.now in
+    let given = given_to c.args.reaches mark_form (standing_mark c.args.reaches) c.args.words.now c.args.matches.now c.in-Some.name.now f c.in-mark.is c.requires.taken c.requires.found c.in-Some.ensures.name c.in-Some.ensures.rows in
+    bounded_number 1 64 (one_text f (codes "workers")) (markers_fit (map string_bytes c.args.words.now) f given)
+
+pub overflow_cast-markers : goal.overflow_cast-markers
+overflow_cast-markers c =
+    let f = found_of c.in-Some.found.now in
+    let given = given_to c.args.reaches mark_form (standing_mark c.args.reaches) c.args.words.now c.args.matches.now c.in-Some.name.now f c.in-mark.is c.requires.taken c.requires.found c.in-Some.ensures.name c.in-Some.ensures.rows in
+    omega (arith, (markers_within (map string_bytes c.args.words.now) f given c.count_of-markers.result c.count_of-markers.ensures).1)
 
 pub returns-in-mark-clause-asked : goal.returns-in-mark-clause-asked
 returns-in-mark-clause-asked c =
     let f = found_of c.in-Some.found.now in
     let given = given_to c.args.reaches mark_form (standing_mark c.args.reaches) c.args.words.now c.args.matches.now c.in-Some.name.now f c.in-mark.is c.requires.taken c.requires.found c.in-Some.ensures.name c.in-Some.ensures.rows in
-    mark_asked (map string_bytes c.args.words.now) f given c.text_of-in-mark.result.now c.text_of-in-mark-2.result.now c.is_large-in-mark.result
-    c.text_of-in-mark.ensures c.text_of-in-mark-2.ensures c.is_large-in-mark.ensures
+    mark_asked (map string_bytes c.args.words.now) f given c.text_of-in-mark.result.now c.text_of-marked.result.now c.count_of-markers.result c.is_large-in-mark.result
+    c.text_of-in-mark.ensures c.text_of-marked.ensures c.count_of-markers.ensures c.is_large-in-mark.ensures
+
+pub returns-in-mark-clause-counts : goal.returns-in-mark-clause-counts
+returns-in-mark-clause-counts c =
+    let f = found_of c.in-Some.found.now in
+    let given = given_to c.args.reaches mark_form (standing_mark c.args.reaches) c.args.words.now c.args.matches.now c.in-Some.name.now f c.in-mark.is c.requires.taken c.requires.found c.in-Some.ensures.name c.in-Some.ensures.rows in
+    markers_within (map string_bytes c.args.words.now) f given c.count_of-markers.result c.count_of-markers.ensures
 
 pub text_of-requires-in-collect : goal.text_of-requires-in-collect
 text_of-requires-in-collect c =
