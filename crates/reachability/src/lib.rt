@@ -4,16 +4,20 @@
 #![tactic(auto)]
 
 mod bits;
+mod found;
 mod heaps;
 mod laws;
 mod marker;
 mod marks;
 mod queue;
+mod rounds;
 mod row;
+mod walks;
 
 pub use heaps::{reachable_heap, remarked_heap};
 pub use laws::{reachable_are_least, reachable_marks_are_sound, reachable_once};
 pub use marker::reachable_marks;
+pub use rounds::reachable_marks_by_threads;
 
 #[cfg(test)]
 mod tests;
