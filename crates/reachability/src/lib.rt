@@ -14,7 +14,7 @@ mod rounds;
 mod row;
 mod walks;
 
-pub use heaps::{reachable_heap, remarked_heap};
+pub use heaps::{reachable_heap, reachable_heap_by_threads, remarked_heap};
 pub use laws::{reachable_are_least, reachable_marks_are_sound, reachable_once};
 pub use marker::reachable_marks;
 pub use rounds::reachable_marks_by_threads;
