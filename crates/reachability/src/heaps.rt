@@ -85,6 +85,39 @@ pub fn reachable_heap_by_threads<R: Threads + Sync>(
     heap_of(edition, words, roots, marks)
 }
 
+// The same heap with these marks, which must be those of the objects that the roots reach, or the reason why there are
+// none.
+fn remarked_with(
+    alloc: Global,
+    heap: &MarkedHeap,
+    marks: Result<Vec<u32>, LayoutFault>,
+) -> Result<MarkedHeap, OutOfMemory>
+    requires reachable { IfOk marks (λ marks. AreReachable heap.now.edition heap.now.words heap.now.roots marks.items) }
+    requires refused { IfErr marks (RefusesFor (size_faults heap.now.edition (length heap.now.words) 0 (length heap.now.roots)
+        ++ flat_map (object_faults heap.now.edition heap.now.words) (starts heap.now.edition heap.now.words))) }
+    ensures made { IfOk result (λ next. next ≡ record { edition = heap.now.edition; words = heap.now.words; marks = next.marks; roots = heap.now.roots }) }
+    ensures reachable { IfOk result (λ next. AreReachable heap.now.edition heap.now.words heap.now.roots next.marks) }
+    ensures accepted { IfOk result IsAccepted }
+    ensures stored { IfOk result IsStored }
+{
+    laws::reachable_are_least();
+    let edition = heap.edition();
+    let words = heap.words();
+    let roots = heap.roots();
+    match marks {
+        Ok(marks) => {
+            let words = Vec::from_slice(alloc, words)?;
+            let roots = Vec::from_slice(alloc, roots)?;
+            Ok(MarkedHeap::of_accepted(edition, words, marks, roots))
+        }
+        Err(fault) => {
+            let memory = matches!(fault, LayoutFault::OutOfMemory);
+            prove!(memory);
+            Err(OutOfMemory)
+        }
+    }
+}
+
 /// The same heap, with exactly the objects marked that its roots reach, in place of those that were marked. The heap
 /// that is read stays as it is; its words and roots are copied, and not checked again. Err if memory runs out, and
 /// never otherwise.
@@ -94,18 +127,30 @@ pub fn remarked_heap(alloc: Global, heap: &MarkedHeap) -> Result<MarkedHeap, Out
     ensures accepted { IfOk result IsAccepted }
     ensures stored { IfOk result IsStored }
 {
-    laws::reachable_are_least();
-    let edition = heap.edition();
-    match reachable_marks(alloc, edition, heap.words(), heap.roots()) {
-        Ok(marks) => {
-            let words = Vec::from_slice(alloc, heap.words())?;
-            let roots = Vec::from_slice(alloc, heap.roots())?;
-            Ok(MarkedHeap::of_accepted(edition, words, marks, roots))
-        }
-        Err(fault) => {
-            let memory = matches!(fault, LayoutFault::OutOfMemory);
-            prove!(memory);
-            Err(OutOfMemory)
-        }
-    }
+    let marks = reachable_marks(alloc, heap.edition(), heap.words(), heap.roots());
+    remarked_with(alloc, heap, marks)
+}
+
+/// Like `remarked_heap`, in so many threads, the caller among them: the same heap. `reachable_marks_by_threads` says what
+/// is gained, and what it costs.
+pub fn remarked_heap_by_threads<R: Threads + Sync>(
+    alloc: Global,
+    rt: &R,
+    threads: usize,
+    heap: &MarkedHeap,
+) -> Result<MarkedHeap, OutOfMemory>
+    ensures made { IfOk result (λ next. next ≡ record { edition = heap.now.edition; words = heap.now.words; marks = next.marks; roots = heap.now.roots }) }
+    ensures reachable { IfOk result (λ next. AreReachable heap.now.edition heap.now.words heap.now.roots next.marks) }
+    ensures accepted { IfOk result IsAccepted }
+    ensures stored { IfOk result IsStored }
+{
+    let marks = reachable_marks_by_threads(
+        alloc,
+        rt,
+        threads,
+        heap.edition(),
+        heap.words(),
+        heap.roots(),
+    );
+    remarked_with(alloc, heap, marks)
 }
