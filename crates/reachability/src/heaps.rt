@@ -131,8 +131,8 @@ pub fn remarked_heap(alloc: Global, heap: &MarkedHeap) -> Result<MarkedHeap, Out
     remarked_with(alloc, heap, marks)
 }
 
-/// Like `remarked_heap`, in so many threads, the caller among them: the same heap. `reachable_marks_by_threads` says what
-/// is gained, and what it costs.
+/// Like `remarked_heap`, in so many threads, the caller among them: the same heap. `reachable_marks_by_threads` says
+/// what is gained, and what it costs.
 pub fn remarked_heap_by_threads<R: Threads + Sync>(
     alloc: Global,
     rt: &R,

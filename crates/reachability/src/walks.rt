@@ -1,5 +1,6 @@
 //! The starts of the objects in a row, found by several threads. Each walks a part of the row from a guess of where the
-//! first object of the part starts. A guess that was wrong is seen when the parts are joined, and the part is walked anew.
+//! first object of the part starts. A guess that was wrong is seen when the parts are joined, and the part is walked
+//! anew, so it costs time and nothing else.
 ghost use Rattle.std.specs.Prelude.{◌≡◌, ℕ, ◌+◌, ◌*◌, ◌^◌, ◌<◌, ◌≤◌, [], true, false, length, All, IfErr, IfOk, IfSome, OnOk};
 ghost use Rattle.std.specs.List.{flat_map};
 ghost use Rattle.heap_layout.specs.Bits.{bit};
@@ -26,8 +27,8 @@ const RUN_UP: usize = 65_536;
 // How many beginnings are tried.
 const TRIES: usize = 64;
 
-/// A part of a row: the word at which it begins, where the first object was taken to start, the bits of its objects, and
-/// where the last one ends, if no object had a fault.
+/// A part of a row: the word at which it begins, where the first object was taken to start, the bits of its objects,
+/// and where the last one ends, if no object had a fault.
 #[derive(Drop)]
 pub(crate) struct Part {
     base: usize,
@@ -125,8 +126,8 @@ fn guess(edition: Edition, words: &[u64], base: usize) -> usize {
     base
 }
 
-// Puts the bits of a part behind those of the row, whose objects end at `entry`; if the part was walked from elsewhere it
-// is walked anew. The answer is where the part's last object ends, and None if an object has a fault.
+// Puts the bits of a part behind those of the row, whose objects end at `entry`. If the part was walked from elsewhere
+// it is walked anew. The answer is where the part's last object ends, and None if an object has a fault.
 fn join(
     alloc: Global,
     edition: Edition,
