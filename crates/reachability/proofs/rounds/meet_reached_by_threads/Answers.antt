@@ -1,4 +1,4 @@
-use Rattle.std.proofs.Common.{◌≡◌, ℕ, ◌-◌, ◌<◌, ◌≤◌, List, fold, length, get_or, sym, ap, subst, ◌∙◌, arith}
+use Rattle.std.proofs.Common.{ℕ, ◌-◌, ◌≤◌, List, fold, length, get_or, sym, ap, subst, ◌∙◌, arith}
 use Rattle.heap_layout.specs.Bits.{bit}
 use Rattle.heap_layout.specs.Heap.{IsPlaced}
 use Rattle.reachability.specs.Queue.{after_object, after_word}
