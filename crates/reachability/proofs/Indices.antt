@@ -62,7 +62,7 @@ range-rises n k within =
     omega (arith, get_or-range_with_len 0 n k 0 (omega arith), get_or-range_with_len 0 n (k + 1) 0 inside)
 
 -- no bit is set after the blocks
-bit-past : (bits : List ℕ) (j : ℕ) → 64 * length bits ≤ j → bit bits j ≡ false
+pub bit-past : (bits : List ℕ) (j : ℕ) → 64 * length bits ≤ j → bit bits j ≡ false
 bit-past bits j past =
     ap (λ (n : ℕ). bit_at n (j % 64) == 1) (get_or_past bits (j / 64) 0 (omega (arith, past))) ∙ ap (λ (n : ℕ). n == 1) (bit_at-zero (j % 64))
 

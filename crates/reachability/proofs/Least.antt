@@ -10,7 +10,7 @@ use Rattle.heap_layout.specs.Limits.{most_words, most_roots}
 use Rattle.heap_layout.proofs.Bounds.{words_most}
 use Rattle.heap_layout.proofs.Values.{no-immediate, value-immediate, value-target, value-cases}
 use Rattle.heap_layout.specs.Kinds.{first_of}
-use Rattle.heap_layout.specs.Heap.{Heap, header_at, object_at, fields_of, from_address, starts, is_start, is_target, is_value, IsTarget, IsValue, IsClosed}
+use Rattle.heap_layout.specs.Heap.{Heap, header_at, object_at, fields_of, from_address, starts, is_start, is_value, IsTarget, IsValue, IsClosed}
 use Rattle.heap_layout.specs.Faults.{unless, size_faults, mark_faults, root_faults, target_faults, weak_faults, reference_faults_by, field_faults_by, IsAccepted}
 use Rattle.heap_layout.specs.declared.fault.LayoutFault.{LayoutFault}
 use Rattle.heap_layout.specs.declared.fault.LayoutFault.TheVariants.{BadRoot}

@@ -6,3 +6,5 @@ pub mod Blocks
 pub mod Rising
 pub mod Least
 pub mod Refusals
+pub mod Entries
+pub mod Parts

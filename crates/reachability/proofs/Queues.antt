@@ -73,7 +73,7 @@ cases queue i true true = inl (refl, λ is. refl)
 cases queue i true false = inr (refl, refl, refl)
 cases queue i false met = inl (refl, λ no. absurd (let none : false ≡ true = no in cc))
 
-after-cases : (row : ℕ → Bool) (queue : List ℕ) (word : ℕ)
+pub after-cases : (row : ℕ → Bool) (queue : List ℕ) (word : ℕ)
     → ((after_word row queue word ≡ queue) × IsMet row queue word)
     ⊎ ((after_word row queue word ≡ queue ++ (word - 2 ^ 32) ∷ []) × (is_address row word ≡ true) × (has queue (word - 2 ^ 32) ≡ false))
 after-cases row queue word = cases queue (word - 2 ^ 32) (is_address row word) (has queue (word - 2 ^ 32))

@@ -1,2 +1,3 @@
 pub mod Reachable
 pub mod Queue
+pub mod Walks

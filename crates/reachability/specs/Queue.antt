@@ -1,7 +1,10 @@
 -- The queue of the objects that were met.
-use Rattle.std.specs.Prelude.{◌≡◌, ℕ, ◌-◌, ◌^◌, ◌==◌, ◌&&◌, Bool, not, nat_le, cond, List, [], ◌∷◌, ◌++◌, filter, Option, Some, None}
+use Rattle.std.specs.Prelude.{◌≡◌, ℕ, ◌-◌, ◌^◌, ◌==◌, ◌&&◌, Bool, not, nat_le, cond, List, [], ◌∷◌, ◌++◌, filter, fold, map, Option, Some, None, Result, Ok, Err, IsOk}
 use Rattle.std.specs.List.{list_any, range_with_len}
+use Rattle.std.specs.Global.{Vec}
 use Rattle.heap_layout.specs.Bits.{bit}
+use Rattle.heap_layout.specs.declared.edition.Edition.{Edition}
+use Rattle.heap_layout.specs.Heap.{from_address, object_at}
 
 -- whether the queue has the object at index i
 abbrev pub has : List ℕ → ℕ → Bool
@@ -39,3 +42,28 @@ is_met row unmet i = bit row i && not (bit unmet i)
 -- the indices below n of the objects that were met, rising
 abbrev pub met_below : List ℕ → List ℕ → ℕ → List ℕ
 met_below row unmet n = filter (is_met row unmet) (range_with_len 0 n)
+
+-- the queue after the references of an object were looked at
+abbrev pub after_object : Edition → List ℕ → (ℕ → Bool) → List ℕ → ℕ → List ℕ
+after_object edition words row queue i = fold (after_word row) queue (object_at edition words i).references
+
+-- the list with the object to which a word leads at its end, if it leads to one of the row
+abbrev pub after_found : (ℕ → Bool) → List ℕ → ℕ → List ℕ
+after_found row found word = extended found (object_of row word)
+
+-- the list with the objects to which the references of an object lead at its end
+abbrev pub found_more : Edition → List ℕ → (ℕ → Bool) → List ℕ → ℕ → List ℕ
+found_more edition words row found i = fold (after_found row) found (object_at edition words i).references
+
+-- what a thread found, if it had the memory for it
+abbrev pub found_items : {E : Type 0} → Result (Vec ℕ) E → List ℕ
+found_items (Ok found) = found.items
+found_items (Err _) = []
+
+-- the queue after the objects that a thread found were looked at
+abbrev pub after_part : {E : Type 0} → (ℕ → Bool) → List ℕ → Result (Vec ℕ) E → List ℕ
+after_part row queue part = fold (after_word row) queue (map from_address (found_items part))
+
+-- a thread had the memory for what it found
+abbrev pub IsFound : {E : Type 0} → Result (Vec ℕ) E → Type 0
+IsFound part = IsOk part

@@ -14,8 +14,8 @@ use crate::row::set_starts;
 use heap_layout::{Edition, Header, Kind, LayoutFault, check_sizes};
 use std::alloc::{AllocError, Global};
 
-// The references of the object at index `i`.
-fn references(edition: Edition, words: &[u64], i: usize) -> &[u64]
+/// The references of the object at index `i`.
+pub(crate) fn references(edition: Edition, words: &[u64], i: usize) -> &[u64]
     requires few { length words.now ≤ 2 ^ 31 }
     requires placed { IsPlaced edition words.now i }
     ensures { result.now ≡ (object_at edition words.now i).references }

@@ -8,8 +8,8 @@ use crate::bits::clear;
 use heap_layout::{FROM_SPACE, is_set};
 use std::alloc::AllocError;
 
-// The index of the object to which a word leads, if the bit of that object is set.
-fn object_of(bits: &[u64], word: u64) -> Option<usize>
+/// The index of the object to which a word leads, if the bit of that object is set.
+pub(crate) fn object_of(bits: &[u64], word: u64) -> Option<usize>
     requires few { length bits.now ≤ 2 ^ 25 }
     ensures object { result ≡ object_of (bit bits.now) word }
     ensures inside { IfSome result (λ i. i < 64 * length bits.now) }
@@ -22,9 +22,9 @@ fn object_of(bits: &[u64], word: u64) -> Option<usize>
     if is_set(bits, i) { Some(i) } else { None }
 }
 
-// Puts the object to which a word leads at the end of the queue. If the word leads to no object, or to one that was
-// met, nothing changes. `starts` has the bits of all objects, `unmet` those of the objects that are not in the queue.
-fn meet(
+/// Puts the object to which a word leads at the end of the queue. If the word leads to no object, or to one that was
+/// met, nothing changes. `starts` has the bits of all objects, `unmet` those of the objects that are not in the queue.
+pub(crate) fn meet(
     starts: &[u64],
     unmet: &mut [u64],
     queue: &mut Vec<u32>,

@@ -3,6 +3,8 @@ use crate::{reachable_heap, reachable_marks, remarked_heap};
 use heap_layout::{Edition, FROM_SPACE as F, Header, LayoutFault, MarkedHeap};
 use std::process::Abort;
 
+mod threads;
+
 // Three objects of edition one. That at 0 has a data word; that at 2 leads to itself and to nothing; that at 5 leads to
 // the first.
 fn three() -> [u64; 7] {
