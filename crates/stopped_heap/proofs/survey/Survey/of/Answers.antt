@@ -79,4 +79,4 @@ invariant_of-result c =
       indices = told-indices edition words roots heads bits marked;
       offsets = offsets;
       same = omega (arith, heads_long, bits_long, c.in_ok-heads.ensures.len, c.in_ok-bits.ensures.len);
-    })
+    }, record { for_heads = omega arith; for_bits = omega arith; for_counts = omega (arith, c.in_ok-counts.ensures.long); for_queue = omega arith })

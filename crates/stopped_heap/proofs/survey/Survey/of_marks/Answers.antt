@@ -29,7 +29,7 @@ invariant_of-result c =
           (omega (arith, bits_long, c.in_ok-bits.ensures.len, c.div_ceil-blocks.ensures));
       offsets = offsets;
       same = omega (arith, bits_long, c.in_ok-bits.ensures.len, c.if-marks-blocks.false);
-    })
+    }, record { for_heads = omega arith; for_bits = omega arith; for_counts = omega (arith, c.in_ok-counts.ensures.long); for_queue = omega arith })
 
 pub returns-clause-sound : goal.returns-clause-sound
 returns-clause-sound c =
