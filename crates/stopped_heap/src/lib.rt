@@ -14,6 +14,7 @@
 
 mod bits;
 mod collecting;
+mod collecting_lent;
 mod fault;
 mod finding;
 mod forwarding;
@@ -31,7 +32,8 @@ mod tables;
 mod tests;
 mod threads;
 
-pub use collecting::{collect, collect_lent};
+pub use collecting::collect;
+pub use collecting_lent::collect_lent;
 pub use fault::{CollectFault, CollectLentFault, LentFault, MarksFault, SurveyFault};
 pub use laws::{
     accepted_is_sound, collected_is_accepted, collected_is_reached, collected_is_slid,

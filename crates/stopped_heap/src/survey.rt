@@ -10,8 +10,8 @@ ghost use Rattle.stopped_heap.specs.Marks.{IsMarksFaultOf};
 ghost use Rattle.stopped_heap.specs.Tables.{IsLentFaultOf};
 
 use crate::fault::{LentFault, MarksFault, SurveyFault};
-use crate::lending::fill;
 use crate::forwarding::{below, is_kept, settle_all};
+use crate::lending::fill;
 use crate::marking::mark;
 use crate::marks::{check_kept, take_marks};
 use crate::offsets::offsets;

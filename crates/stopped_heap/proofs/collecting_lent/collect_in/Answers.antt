@@ -6,7 +6,7 @@ use Rattle.stopped_heap.specs.Surveys.{surveyed, told}
 use Rattle.stopped_heap.proofs.Settling.{settled-all}
 use Rattle.stopped_heap.proofs.Viewed.{last-count, settled-seen}
 use Rattle.stopped_heap.proofs.Whole.{no-room, is-collected}
-use Rattle.stopped_heap.proofs.collecting.collect_in.Goals as goal
+use Rattle.stopped_heap.proofs.collecting_lent.collect_in.Goals as goal
 
 pub returns-then-live-to-clause-fault : goal.returns-then-live-to-clause-fault
 returns-then-live-to-clause-fault c =
