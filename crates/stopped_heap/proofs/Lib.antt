@@ -3,6 +3,7 @@ pub mod Below
 pub mod Taking
 pub mod Taken
 pub mod Reaching
+pub mod Queued
 pub mod Once
 pub mod Bounding
 pub mod Scanning

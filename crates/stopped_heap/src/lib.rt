@@ -14,10 +14,12 @@
 
 mod bits;
 mod collecting;
+mod collecting_lent;
 mod fault;
 mod finding;
 mod forwarding;
 mod laws;
+mod lending;
 mod marking;
 mod marks;
 mod meeting;
@@ -25,15 +27,18 @@ mod offsets;
 mod shape;
 mod sliding;
 mod survey;
+mod tables;
 #[cfg(test)]
 mod tests;
 mod threads;
 
 pub use collecting::collect;
-pub use fault::{CollectFault, MarksFault, SurveyFault};
+pub use collecting_lent::collect_lent;
+pub use fault::{CollectFault, CollectLentFault, LentFault, MarksFault, SurveyFault};
 pub use laws::{
     accepted_is_sound, collected_is_accepted, collected_is_reached, collected_is_slid,
     parts_are_whole, reached_is_marked, reached_is_one, sound_has_no_fault,
 };
 pub use survey::Survey;
+pub use tables::{NotSurveyed, Tables};
 pub use threads::collect_by_threads;
