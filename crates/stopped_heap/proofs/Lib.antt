@@ -23,3 +23,5 @@ pub mod Faultless
 pub mod Viewed
 pub mod Joined
 pub mod Whole
+pub mod Moving
+pub mod SlidingDown

@@ -17,6 +17,7 @@ mod collecting;
 mod fault;
 mod finding;
 mod forwarding;
+mod in_place;
 mod laws;
 mod marking;
 mod marks;
@@ -24,6 +25,7 @@ mod meeting;
 mod offsets;
 mod shape;
 mod sliding;
+mod sliding_down;
 mod survey;
 #[cfg(test)]
 mod tests;
@@ -31,6 +33,7 @@ mod threads;
 
 pub use collecting::collect;
 pub use fault::{CollectFault, MarksFault, SurveyFault};
+pub use in_place::collect_in_place;
 pub use laws::{
     accepted_is_sound, collected_is_accepted, collected_is_reached, collected_is_slid,
     parts_are_whole, reached_is_marked, reached_is_one, sound_has_no_fault,
