@@ -175,7 +175,9 @@ module _ (edition : Edition) (old heads bits counts : List ℕ) (tables : AreTab
         let left = length-drop (live_words objects) old in
         same_number_lists words (all ++ drop (live_words objects) old) (omega (arith, is.long, both, left, many, fit)) (λ k lt.
         elim (cases_lt k place) [
-          | inl low ↦ is.slid.made k (omega arith) low (omega (arith, lt)) ∙ sym (get_or_append_left all (drop (live_words objects) old) 0 k (omega (arith, low, end, many)))
+          | inl low ↦
+              let word : k ≡ k - 0 = omega arith in
+              ap (λ (n : ℕ). get_or words n 0) word ∙ is.slid.made k (omega arith) low (omega (arith, lt)) ∙ sym (get_or_append_left all (drop (live_words objects) old) 0 k (omega (arith, low, end, many)))
           | inr high ↦
               let index : live_words objects + (k - live_words objects) ≡ k = omega (arith, high, end) in
               is.rest k high
