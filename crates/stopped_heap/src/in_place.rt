@@ -64,13 +64,20 @@ pub fn collect_in_place(
     ensures roots_stay { OnErr result (roots.new ≡ roots.old) }
 {
     let tables = tables_of(alloc, edition, words, roots)?;
-    let Tables {
-        heads,
-        bits,
-        counts,
-    } = tables;
-    slide_down(edition, &heads, &bits, &counts, words);
+    slide_down(
+        edition,
+        &tables.heads,
+        &tables.bits,
+        &tables.counts,
+        words,
+    );
     // Each root was met, so none leads astray, and none becomes null.
-    settle_all(edition, &heads, &bits, &counts, roots);
-    Ok(u64::from(counts[bits.len()]))
+    settle_all(
+        edition,
+        &tables.heads,
+        &tables.bits,
+        &tables.counts,
+        roots,
+    );
+    Ok(u64::from(tables.counts[tables.bits.len()]))
 }
