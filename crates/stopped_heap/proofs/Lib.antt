@@ -25,3 +25,4 @@ pub mod Joined
 pub mod Whole
 pub mod Moving
 pub mod SlidingDown
+pub mod InPlace

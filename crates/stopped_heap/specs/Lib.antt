@@ -6,3 +6,4 @@ pub mod Meeting
 pub mod Marks
 pub mod Looking
 pub mod Parts
+pub mod InPlace

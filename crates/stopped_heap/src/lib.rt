@@ -35,7 +35,7 @@ pub use collecting::collect;
 pub use fault::{CollectFault, MarksFault, SurveyFault};
 pub use in_place::collect_in_place;
 pub use laws::{
-    accepted_is_sound, collected_is_accepted, collected_is_reached, collected_is_slid,
+    accepted_is_sound, collected_is_accepted, collected_is_one, collected_is_reached, collected_is_slid,
     parts_are_whole, reached_is_marked, reached_is_one, sound_has_no_fault,
 };
 pub use survey::Survey;
