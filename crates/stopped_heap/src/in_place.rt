@@ -48,10 +48,12 @@ fn tables_of(
     })
 }
 
-/// Collects the heap of these words and roots within the words, with no second memory: slides what the roots reach to
-/// the beginning of the words, and makes the roots lead there. Ok with the number of live words, which are the first of
-/// the words then; the words behind them are as they were. What is left is what `collect` leaves in a memory that held
-/// the same words. Err if the heap is refused or memory runs out; then neither the words nor the roots have changed.
+/// Collects the heap of these words and roots within the words, with no second memory: slides what the roots reach down
+/// to the beginning of the words, and makes the roots lead there. Ok with the number of live words, which are the first
+/// ones then; the words behind them are as they were. So the words are those that `collect` leaves in a memory that
+/// held them. Err if the heap is refused, or if memory for the tables runs out; then neither the words nor the roots
+/// have changed. Beside the words it takes two bits a word, 4 bytes for each 64 words, and 4 for each object that is
+/// reached.
 pub fn collect_in_place(
     alloc: Global,
     edition: Edition,
@@ -64,20 +66,8 @@ pub fn collect_in_place(
     ensures roots_stay { OnErr result (roots.new ≡ roots.old) }
 {
     let tables = tables_of(alloc, edition, words, roots)?;
-    slide_down(
-        edition,
-        &tables.heads,
-        &tables.bits,
-        &tables.counts,
-        words,
-    );
+    slide_down(edition, &tables.heads, &tables.bits, &tables.counts, words);
     // Each root was met, so none leads astray, and none becomes null.
-    settle_all(
-        edition,
-        &tables.heads,
-        &tables.bits,
-        &tables.counts,
-        roots,
-    );
+    settle_all(edition, &tables.heads, &tables.bits, &tables.counts, roots);
     Ok(u64::from(tables.counts[tables.bits.len()]))
 }

@@ -113,8 +113,25 @@ fn slide_down_object(
     let refs = 1;
     let weak = refs + shape.refs;
     let data = weak + shape.weak;
-    move_references(edition, bits, counts, words, start + refs, place + refs, shape.refs);
-    move_weak(edition, heads, bits, counts, words, start + weak, place + weak, shape.weak);
+    move_references(
+        edition,
+        bits,
+        counts,
+        words,
+        start + refs,
+        place + refs,
+        shape.refs,
+    );
+    move_weak(
+        edition,
+        heads,
+        bits,
+        counts,
+        words,
+        start + weak,
+        place + weak,
+        shape.weak,
+    );
     move_data(words, start + data, place + data, shape.size - data);
 }
 
@@ -141,13 +158,7 @@ pub(crate) fn slide_down(
 
 // The same, compiled into its caller.
 #[inline(always)]
-fn slide_down_all(
-    edition: Edition,
-    heads: &[u64],
-    bits: &[u64],
-    counts: &[u32],
-    words: &mut [u64],
-)
+fn slide_down_all(edition: Edition, heads: &[u64], bits: &[u64], counts: &[u32], words: &mut [u64])
     requires tables { AreTables edition words.old heads.now bits.now counts.now }
     ensures { words.new ≡ settled_words (live (told edition words.old heads.now)) ++ drop (live_words (live (told edition words.old heads.now))) words.old }
 {

@@ -112,7 +112,7 @@ loop-place-preserved c =
     let size : c.shape_of-shape.result.size ≡ size_of (header_at e c.loop-place.words c.next_set-start.result) = c.shape_of-shape.ensures.size in
     let refs : c.shape_of-shape.result.refs ≡ refs_of (header_at e c.loop-place.words c.next_set-start.result) = c.shape_of-shape.ensures.refs in
     let down : IsDown e heads (set_bits bits) c.next_set-start.result c.loop-place.place c.shape_of-shape.result.refs c.shape_of-shape.result.weak c.shape_of-shape.result.size
-        c.loop-place.words c.slide_down_object.new.words = record {
+    c.loop-place.words c.slide_down_object.new.words = record {
       header = c.slide_down_object.ensures.header;
       references = c.slide_down_object.ensures.references;
       weak_words = c.slide_down_object.ensures.weak;
