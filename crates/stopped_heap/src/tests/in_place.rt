@@ -126,24 +126,26 @@ fn compare(
     let mut words = heap.words.to_vec(alloc)?;
     let mut roots = heap.roots.to_vec(alloc)?;
     let answer = collect_in_place(alloc, edition, &mut words, &mut roots);
-    match (apart, answer) {
-        (Ok(wanted), Ok(live)) => {
-            assert_eq!(rt; live, wanted, "live words, seed {seed}");
-            assert_eq!(rt; words.as_slice(), to.as_slice(), "words, seed {seed}");
-            assert_eq!(rt; roots.as_slice(), to_roots.as_slice(), "roots, seed {seed}");
-            Ok(words.as_slice() != heap.words.as_slice())
-        }
-        (_, Err(fault)) => {
+    let live = match answer {
+        Ok(live) => live,
+        Err(fault) => {
             assert_eq!(rt; fault, SurveyFault::OutOfMemory);
             assert_eq!(rt; words.as_slice(), heap.words.as_slice());
             assert_eq!(rt; roots.as_slice(), heap.roots.as_slice());
-            Err(AllocError)
+            return Err(AllocError);
         }
-        (Err(fault), _) => {
+    };
+    let wanted = match apart {
+        Ok(wanted) => wanted,
+        Err(fault) => {
             assert_eq!(rt; fault, CollectFault::Survey(SurveyFault::OutOfMemory));
-            Err(AllocError)
+            return Err(AllocError);
         }
-    }
+    };
+    assert_eq!(rt; live, wanted, "live words, seed {seed}");
+    assert_eq!(rt; words.as_slice(), to.as_slice(), "words, seed {seed}");
+    assert_eq!(rt; roots.as_slice(), to_roots.as_slice(), "roots, seed {seed}");
+    Ok(words.as_slice() != heap.words.as_slice())
 }
 
 #[test]
