@@ -24,3 +24,6 @@ pub mod Faultless
 pub mod Viewed
 pub mod Joined
 pub mod Whole
+pub mod Moving
+pub mod SlidingDown
+pub mod InPlace

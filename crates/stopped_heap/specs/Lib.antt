@@ -7,3 +7,4 @@ pub mod Marks
 pub mod Looking
 pub mod Parts
 pub mod Tables
+pub mod InPlace
