@@ -11,7 +11,7 @@ use Rattle.heap_layout.specs.Values.{or_immediate}
 use Rattle.stopped_heap.specs.Marks.{AllKept, IsKept}
 use Rattle.stopped_heap.specs.Meeting.{AreApart}
 use Rattle.stopped_heap.specs.Reached.{is_within, IsWordOf, IsSound}
-use Rattle.stopped_heap.specs.Surveys.{marks_of, with_roots, told}
+use Rattle.stopped_heap.specs.Surveys.{marks_of, told}
 use Rattle.mark_tables.specs.Bits.{set_bits}
 use Rattle.mark_tables.specs.LiveWords.{live_indices}
 use Rattle.stopped_heap.proofs.Heads.{head-number, heads-lead, mark-set}
@@ -33,7 +33,7 @@ module _ (edition : Edition) (words roots heads bits : List ℕ) (few : length w
       subst (IsValue edition marks) (get_or_default from k 0 d lt)
       (ap (λ (test : ℕ → Bool). or_immediate edition test (get_or from k 0)) (sym (heads-lead heads)) ∙ all k lt)
 
-  pub lent-sound : IsSound (with_roots (told edition words heads) roots)
+  pub lent-sound : IsSound (record { edition = edition; words = words; marks = marks; roots = roots })
   lent-sound = record {
     few_words = few;
     few_roots = few_roots;

@@ -3,6 +3,7 @@ pub mod Below
 pub mod Taking
 pub mod Taken
 pub mod Reaching
+pub mod Queued
 pub mod Once
 pub mod Bounding
 pub mod Scanning
@@ -23,3 +24,6 @@ pub mod Faultless
 pub mod Viewed
 pub mod Joined
 pub mod Whole
+pub mod Moving
+pub mod SlidingDown
+pub mod InPlace

@@ -1,5 +1,6 @@
 -- What a survey is seen to be, by its tables.
-use Rattle.std.proofs.Common.{◌≡◌, ℕ, Bool, List, [], ◌∷◌, length, map, refl, ap, ◌∙◌}
+use Rattle.std.proofs.Common.{◌≡◌, ℕ, Bool, List, [], ◌∷◌, length, map, get_or, refl, ap, ◌∙◌, arith}
+use Rattle.std.proofs.lemmas.List.{get_or_default}
 use Rattle.heap_layout.specs.declared.edition.Edition.{Edition}
 use Rattle.heap_layout.specs.Bits.{leads}
 use Rattle.heap_layout.specs.Heap.{Heap, live, is_value}
@@ -25,6 +26,13 @@ pub words-seen : (edition : Edition) (words heads bits counts lent : List ℕ) (
     → told edition words heads ≡ heap → length (set_bits lent) ≡ live_words (live heap)
 words-seen edition words heads bits counts lent heap tables same view =
     ap (λ (xs : List ℕ). length (set_bits xs)) same ∙ all-words edition words heads bits counts tables ∙ ap (λ (h : Heap). live_words (live h)) view
+
+-- the last count says it
+pub last-count : (edition : Edition) (words heads bits counts : List ℕ) → AreTables edition words heads bits counts → (n d : ℕ) → n ≡ length bits
+    → get_or counts n d ≡ live_words (live (told edition words heads))
+last-count edition words heads bits counts tables n d last =
+    ap (λ (m : ℕ). get_or counts m d) last ∙ get_or_default counts (length bits) d 0 (omega (arith, tables.offsets.long)) ∙ tables.offsets.before (length bits) (omega arith)
+    ∙ words-seen edition words heads bits counts bits (told edition words heads) tables refl refl
 
 -- where words lead
 settled-all-by : (edition : Edition) (words heads bits counts : List ℕ) → AreTables edition words heads bits counts → (xs : List ℕ)

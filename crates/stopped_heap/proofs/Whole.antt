@@ -6,10 +6,10 @@ use Rattle.page_plan.specs.Sliding.{live_words}
 use Rattle.stopped_heap.specs.Collecting.{IsCollected, HasCollected, RefusesCollection}
 use Rattle.stopped_heap.specs.Reached.{AreReached, IsSound}
 use Rattle.stopped_heap.specs.Settled.{settled_word, settled_words}
-use Rattle.stopped_heap.specs.Surveys.{with_roots}
+use Rattle.stopped_heap.specs.Surveys.{heap_of, with_roots, Surveyed}
 use Rattle.stopped_heap.specs.declared.fault.CollectFault.TheVariants.{NoRoom}
 
-module _ (survey : Heap) (edition : Edition) (words roots : List ℕ) (same_edition : survey.edition ≡ edition) (same_words : survey.words ≡ words)
+module _ (survey : Surveyed) (edition : Edition) (words roots : List ℕ) (same_edition : survey.edition ≡ edition) (same_words : survey.words ≡ words)
     (reached : AreReached edition words roots survey.marks) (sound : IsSound (with_roots survey roots)) where
   -- the heap that was surveyed is the one of this edition and with these words
   heap-is : with_roots survey roots ≡ record { edition = edition; words = words; marks = survey.marks; roots = roots }
@@ -18,13 +18,13 @@ module _ (survey : Heap) (edition : Edition) (words roots : List ℕ) (same_edit
       ∙ ap (λ (ws : List ℕ). record { edition = edition; words = ws; marks = survey.marks; roots = roots }) same_words
 
   -- it is refused if its live words do not fit
-  pub no-room : (count room : ℕ) → count ≡ live_words (live survey) → room < count → RefusesCollection edition words roots room (NoRoom count)
+  pub no-room : (count room : ℕ) → count ≡ live_words (live (heap_of survey)) → room < count → RefusesCollection edition words roots room (NoRoom count)
   no-room count room counted less =
       (survey.marks, reached, subst IsSound heap-is sound, counted ∙ ap (λ (h : Heap). live_words (live h)) heap-is, less)
 
   -- otherwise it is collected
-  pub is-collected : (count : ℕ) (part before new_roots : List ℕ) → count ≡ live_words (live survey) → part ≡ settled_words (live survey)
-      → new_roots ≡ map (settled_word survey.edition (live survey)) roots → HasCollected edition words roots count new_roots before (part ++ drop count before)
+  pub is-collected : (count : ℕ) (part before new_roots : List ℕ) → count ≡ live_words (live (heap_of survey)) → part ≡ settled_words (live (heap_of survey))
+      → new_roots ≡ map (settled_word survey.edition (live (heap_of survey))) roots → HasCollected edition words roots count new_roots before (part ++ drop count before)
   is-collected count part before new_roots counted filled forwarded =
       let is : IsCollected (record { edition = edition; words = words; marks = survey.marks; roots = roots }) count new_roots before (part ++ drop count before) = record {
         sound = subst IsSound heap-is sound;

@@ -6,3 +6,5 @@ pub mod Meeting
 pub mod Marks
 pub mod Looking
 pub mod Parts
+pub mod Tables
+pub mod InPlace

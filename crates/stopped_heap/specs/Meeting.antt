@@ -1,5 +1,6 @@
 -- The objects that were met, and what was done with each.
-use Rattle.std.specs.Prelude.{◌≡◌, ℕ, ◌+◌, ◌<◌, ◌≤◌, true, false, List, length, slice_index}
+use Rattle.std.specs.Prelude.{◌≡◌, ℕ, ◌+◌, ◌<◌, ◌≤◌, ◌==◌, true, false, List, length, slice_index}
+use Rattle.std.specs.List.{IsDistinct}
 use Rattle.heap_layout.specs.declared.edition.Edition.{Edition}
 use Rattle.heap_layout.specs.Bits.{bit}
 use Rattle.heap_layout.specs.Header.{size_of}
@@ -12,6 +13,16 @@ use Rattle.stopped_heap.specs.declared.meeting.Stop.TheVariants.{Memory, Stray}
 -- the bits that are set are those of the objects in the queue
 abbrev pub AreMet : List ℕ → List ℕ → Type 0
 AreMet queue met = (i : ℕ) → bit met i ≡ has queue i
+
+-- the objects in the queue are different ones, each at one of `count` words
+pub record AreOnce (count : ℕ) (queue : List ℕ) : Type 0 where
+  pub once : IsDistinct (λ i j. i == j) queue
+  pub within : (i : ℕ) → has queue i ≡ true → i < count
+
+-- memory ran out only because the queue had room for fewer objects than there are words
+abbrev pub IsShort : ℕ → ℕ → Stop → Type 0
+IsShort count capacity Memory = capacity < count
+IsShort count capacity (Stray k) = Unit {0}
 
 -- each of these words is an immediate, null, or the address of one of `count` words
 abbrev pub AllLead : Edition → ℕ → List ℕ → Type 0

@@ -12,13 +12,28 @@ use Rattle.mark_tables.specs.LiveWords.{live_indices}
 abbrev pub marks_of : List ℕ → List ℕ
 marks_of bits = filter (bit bits) (range_with_len 0 (64 * length bits))
 
--- the heap with these roots
-abbrev pub with_roots : Heap → List ℕ → Heap
-with_roots heap roots = record { edition = heap.edition; words = heap.words; marks = heap.marks; roots = roots }
+-- what a survey found: the marked objects of these words, and for a survey of how many words its tables have room
+pub record Surveyed : Type 0 where
+  pub edition : Edition
+  pub words : List ℕ
+  pub marks : List ℕ
+  pub room : ℕ
+
+-- its heap with these roots
+abbrev pub with_roots : Surveyed → List ℕ → Heap
+with_roots survey roots = record { edition = survey.edition; words = survey.words; marks = survey.marks; roots = roots }
+
+-- and with none
+abbrev pub heap_of : Surveyed → Heap
+heap_of survey = with_roots survey []
 
 -- the heap of these words whose marked objects are those at the set bits of `heads`, with no roots
 abbrev pub told : Edition → List ℕ → List ℕ → Heap
 told edition words heads = record { edition = edition; words = words; marks = marks_of heads; roots = [] }
+
+-- what is surveyed of these words with the marked objects at the set bits of `heads`
+abbrev pub surveyed : Edition → List ℕ → List ℕ → ℕ → Surveyed
+surveyed edition words heads room = record { edition = edition; words = words; marks = marks_of heads; room = room }
 
 -- The tables of a heap with these words: `heads` has the bits of the first words of live objects, `bits` those of all
 -- live words, and `counts` are the offsets of the blocks of `bits`.

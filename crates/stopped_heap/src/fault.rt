@@ -99,3 +99,27 @@ pub enum CollectFault {
     #[error("{0} live words do not fit")]
     NoRoom(u64),
 }
+
+/// Why a heap is not surveyed by tables that were lent. `OutOfMemory` never comes.
+#[derive(Clone, Copy, Debug, PartialEq, Eq, Error)]
+pub enum LentFault {
+    /// There are more words than these, for which the tables have room, though not too many words or roots for the
+    /// edition. Nothing else was looked at.
+    #[error("the tables have room for {0} words")]
+    ShortTables(u64),
+    /// The heap is refused.
+    #[error("{0}")]
+    Survey(SurveyFault),
+}
+
+/// Why a heap is not collected by tables that were lent. `OutOfMemory` never comes.
+#[derive(Clone, Copy, Debug, PartialEq, Eq, Error)]
+pub enum CollectLentFault {
+    /// There are more words than these, for which the tables have room, though not too many words or roots for the
+    /// edition. Nothing else was looked at.
+    #[error("the tables have room for {0} words")]
+    ShortTables(u64),
+    /// The heap is refused, or its live words do not fit.
+    #[error("{0}")]
+    Collect(CollectFault),
+}

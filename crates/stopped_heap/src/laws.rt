@@ -1,13 +1,17 @@
 //! Laws of collections. Each is the contract of a function that does nothing.
-ghost use Rattle.std.specs.Prelude.{◌≡◌, ℕ, List, Contains, sum};
+ghost use Rattle.std.specs.Prelude.{◌≡◌, ℕ, ◌≤◌, List, Contains, length, sum};
 ghost use Rattle.heap_layout.specs.declared.edition.Edition.{Edition};
 ghost use Rattle.heap_layout.specs.Faults.{IsAccepted};
 ghost use Rattle.heap_layout.specs.Heap.{Heap, live};
 ghost use Rattle.page_plan.specs.Sliding.{live_words};
 ghost use Rattle.reachability.specs.Reachable.{AreReachable};
+ghost use Rattle.stopped_heap.specs.Collecting.{HasCollected, RefusesCollection};
+ghost use Rattle.stopped_heap.specs.InPlace.{HaveLeftTheSame};
 ghost use Rattle.stopped_heap.specs.Reached.{AreReached, IsReachedFrom, IsSound, IsFaultOf};
 ghost use Rattle.stopped_heap.specs.Parts.{joined_parts};
 ghost use Rattle.stopped_heap.specs.Settled.{collected, settled_words, AreSlid};
+ghost use Rattle.stopped_heap.specs.declared.fault.CollectFault.{CollectFault};
+ghost use Rattle.stopped_heap.specs.declared.fault.CollectFault.TheVariants as collection;
 ghost use Rattle.stopped_heap.specs.declared.fault.SurveyFault.{SurveyFault};
 ghost use Rattle.stopped_heap.specs.declared.fault.SurveyFault.TheVariants as survey;
 
@@ -47,6 +51,20 @@ pub fn sound_has_no_fault()
 /// There is one list of the objects that are reached.
 pub fn reached_is_one()
     ensures { (edition : Edition) (words roots marks others : List ℕ) → AreReached edition words roots marks → AreReached edition words roots others → marks ≡ others }
+{}
+
+/// Of the same words and roots each collection leaves the same live words and roots, whatever memory it slides into. So
+/// `collect_in_place` leaves what `collect` leaves, and where that slides into a memory that held the words of the heap,
+/// the words behind the live ones are the same too. What the one collects the other refuses only if memory runs out;
+/// and `collect` always has room in a memory as long as the words.
+pub fn collected_is_one()
+    ensures same { (edition : Edition) (words roots : List ℕ) (count other : ℕ) (new_roots other_roots before other_before after other_after : List ℕ)
+        → HasCollected edition words roots count new_roots before after → HasCollected edition words roots other other_roots other_before other_after
+        → HaveLeftTheSame count other new_roots other_roots before other_before after other_after }
+    ensures fault { (edition : Edition) (words roots : List ℕ) (count : ℕ) (new_roots before after : List ℕ) (fault : SurveyFault)
+        → HasCollected edition words roots count new_roots before after → IsFaultOf edition words roots fault → fault ≡ survey.OutOfMemory }
+    ensures room { (edition : Edition) (words roots : List ℕ) (room : ℕ) (fault : CollectFault) → length words ≤ room → RefusesCollection edition words roots room fault
+        → (refused : SurveyFault) × (fault ≡ collection.Survey refused) }
 {}
 
 /// Whoever marked the objects of a sound heap: each object that the roots reach is marked. So of a heap that is

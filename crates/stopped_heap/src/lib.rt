@@ -1,6 +1,6 @@
 //! A collection of a heap at rest: while all threads of its runtime stand still. The heap lies in memory of the
-//! caller, and so does the memory into which it slides; between two collections the caller reads, writes and allocates
-//! there, with no call of this crate.
+//! caller, and so does the memory into which it slides, if it does not slide within its own; between two collections
+//! the caller reads, writes and allocates there, with no call of this crate.
 //!
 //! A survey finds what the roots reach, or takes marks of the caller's own; then each live object slides, the first
 //! one to index 0, each behind the one before. It asks only of live objects that they lie within the words and do not
@@ -14,26 +14,34 @@
 
 mod bits;
 mod collecting;
+mod collecting_lent;
 mod fault;
 mod finding;
 mod forwarding;
+mod in_place;
 mod laws;
+mod lending;
 mod marking;
 mod marks;
 mod meeting;
 mod offsets;
 mod shape;
 mod sliding;
+mod sliding_down;
 mod survey;
+mod tables;
 #[cfg(test)]
 mod tests;
 mod threads;
 
 pub use collecting::collect;
-pub use fault::{CollectFault, MarksFault, SurveyFault};
+pub use collecting_lent::collect_lent;
+pub use fault::{CollectFault, CollectLentFault, LentFault, MarksFault, SurveyFault};
+pub use in_place::{collect_in_place, collect_in_place_lent};
 pub use laws::{
-    accepted_is_sound, collected_is_accepted, collected_is_reached, collected_is_slid,
-    parts_are_whole, reached_is_marked, reached_is_one, sound_has_no_fault,
+    accepted_is_sound, collected_is_accepted, collected_is_one, collected_is_reached,
+    collected_is_slid, parts_are_whole, reached_is_marked, reached_is_one, sound_has_no_fault,
 };
 pub use survey::Survey;
+pub use tables::{NotSurveyed, Tables};
 pub use threads::collect_by_threads;

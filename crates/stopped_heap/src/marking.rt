@@ -1,11 +1,12 @@
 //! Marks what the roots reach.
-ghost use Rattle.std.specs.Prelude.{◌≡◌, ℕ, ◌+◌, ◌*◌, ◌^◌, ◌≤◌, true, false, length, IfErr, OnOk};
+ghost use Rattle.std.specs.Prelude.{◌≡◌, ℕ, ◌+◌, ◌*◌, ◌^◌, ◌<◌, ◌≤◌, true, false, [], length, vec_capacity, IfErr, OnOk};
 ghost use Rattle.heap_layout.specs.Bits.{bit};
 ghost use Rattle.heap_layout.specs.Header.{refs_of, weak_of};
 ghost use Rattle.heap_layout.specs.Heap.{header_at, object_at, IsPlaced};
 ghost use Rattle.heap_layout.specs.Limits.{most_words, most_roots};
 ghost use Rattle.stopped_heap.specs.Reached.{IsReachedFrom, IsFaultOf, IsWordOf};
 ghost use Rattle.stopped_heap.specs.Meeting.{AllLead, IsDone, AreApart};
+ghost use Rattle.stopped_heap.specs.declared.fault.SurveyFault.TheVariants as survey;
 
 use crate::bits::take_run;
 use crate::fault::SurveyFault;
@@ -76,24 +77,18 @@ pub(crate) fn mark(
     ensures same { length heads.new ≡ length heads.old }
     ensures long { length bits.new ≡ length bits.old }
 {
-    // Each arm is compiled for its edition.
-    match edition {
-        Edition::One => mark_by(alloc, edition, words, roots, heads, bits),
-        Edition::Two => mark_by(alloc, edition, words, roots, heads, bits),
-        Edition::Three => mark_by(alloc, edition, words, roots, heads, bits),
-        Edition::Four => mark_by(alloc, edition, words, roots, heads, bits),
-    }
+    mark_with(edition, words, roots, heads, bits, &mut Vec::new(alloc))
 }
 
-// The same, compiled into its caller.
-#[inline(always)]
-fn mark_by(
-    alloc: Global,
+/// The same with this queue, which must be empty. It has the objects that were met afterwards. If it has room for as
+/// many as there are words, nothing is allocated.
+pub(crate) fn mark_with(
     edition: Edition,
     words: &[u64],
     roots: &[u64],
     heads: &mut [u64],
     bits: &mut [u64],
+    queue: &mut Vec<u32>,
 ) -> Result<(), SurveyFault>
     requires few { length words.now ≤ 2 ^ 31 }
     requires sizes { (length words.now ≤ most_words edition) × (length roots.now ≤ most_roots edition) }
@@ -102,6 +97,7 @@ fn mark_by(
     requires long { length bits.old ≡ length heads.old }
     requires no_heads { (i : ℕ) → bit heads.old i ≡ false }
     requires no_bits { (i : ℕ) → bit bits.old i ≡ false }
+    requires empty { queue.old.items ≡ [] }
     ensures reached { OnOk result ((i : ℕ) → bit heads.new i ≡ true → IsReachedFrom edition words.now roots.now i) }
     ensures all { OnOk result ((i : ℕ) → IsReachedFrom edition words.now roots.now i → bit heads.new i ≡ true) }
     ensures done { OnOk result ((i : ℕ) → bit heads.new i ≡ true → IsDone edition words.now bits.new i) }
@@ -111,10 +107,50 @@ fn mark_by(
     ensures fault { IfErr result (IsFaultOf edition words.now roots.now) }
     ensures same { length heads.new ≡ length heads.old }
     ensures long { length bits.new ≡ length bits.old }
+    ensures short { IfErr result (λ fault. fault ≡ survey.OutOfMemory → vec_capacity queue.old < length words.now) }
+    ensures capacity { vec_capacity queue.old ≤ vec_capacity queue.new }
+{
+    // Each arm is compiled for its edition.
+    match edition {
+        Edition::One => mark_by(edition, words, roots, heads, bits, queue),
+        Edition::Two => mark_by(edition, words, roots, heads, bits, queue),
+        Edition::Three => mark_by(edition, words, roots, heads, bits, queue),
+        Edition::Four => mark_by(edition, words, roots, heads, bits, queue),
+    }
+}
+
+// The same, compiled into its caller.
+#[inline(always)]
+fn mark_by(
+    edition: Edition,
+    words: &[u64],
+    roots: &[u64],
+    heads: &mut [u64],
+    bits: &mut [u64],
+    queue: &mut Vec<u32>,
+) -> Result<(), SurveyFault>
+    requires few { length words.now ≤ 2 ^ 31 }
+    requires sizes { (length words.now ≤ most_words edition) × (length roots.now ≤ most_roots edition) }
+    requires few_bits { length heads.old ≤ 2 ^ 25 }
+    requires room { length words.now ≤ 64 * length heads.old }
+    requires long { length bits.old ≡ length heads.old }
+    requires no_heads { (i : ℕ) → bit heads.old i ≡ false }
+    requires no_bits { (i : ℕ) → bit bits.old i ≡ false }
+    requires empty { queue.old.items ≡ [] }
+    ensures reached { OnOk result ((i : ℕ) → bit heads.new i ≡ true → IsReachedFrom edition words.now roots.now i) }
+    ensures all { OnOk result ((i : ℕ) → IsReachedFrom edition words.now roots.now i → bit heads.new i ≡ true) }
+    ensures done { OnOk result ((i : ℕ) → bit heads.new i ≡ true → IsDone edition words.now bits.new i) }
+    ensures only { OnOk result ((j : ℕ) → bit bits.new j ≡ true → (i : ℕ) × (bit heads.new i ≡ true) × IsWordOf edition words.now i j) }
+    ensures apart { OnOk result (AreApart edition words.now heads.new) }
+    ensures roots { OnOk result (AllLead edition (length words.now) roots.now) }
+    ensures fault { IfErr result (IsFaultOf edition words.now roots.now) }
+    ensures same { length heads.new ≡ length heads.old }
+    ensures long { length bits.new ≡ length bits.old }
+    ensures short { IfErr result (λ fault. fault ≡ survey.OutOfMemory → vec_capacity queue.old < length words.now) }
+    ensures capacity { vec_capacity queue.old ≤ vec_capacity queue.new }
 {
     let count = words.len();
-    let mut queue = Vec::new(alloc);
-    match meet_all(edition, count, heads, &mut queue, roots) {
+    match meet_all(edition, count, heads, queue, roots) {
         Ok(()) => {}
         Err(Stop::Memory) => return Err(SurveyFault::OutOfMemory),
         Err(Stop::Stray(k)) => return Err(SurveyFault::BadRoot(k as u64)),
@@ -133,7 +169,7 @@ fn mark_by(
             return Err(SurveyFault::Overlap(i as u64));
         }
         let references = references(edition, words, i, shape.refs);
-        match meet_all(edition, count, heads, &mut queue, references) {
+        match meet_all(edition, count, heads, queue, references) {
             Ok(()) => {}
             Err(Stop::Memory) => return Err(SurveyFault::OutOfMemory),
             Err(Stop::Stray(k)) => return Err(SurveyFault::BadReference((i + 1 + k) as u64)),

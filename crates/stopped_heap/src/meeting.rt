@@ -1,15 +1,15 @@
 //! The queue of the objects that were met, in the order in which they were met. Each is there once: its bit is set when
 //! it is met.
-ghost use Rattle.std.specs.Prelude.{◌≡◌, ◌*◌, ◌^◌, ◌<◌, ◌≤◌, fold, length, true, false, slice_index, IfErr, OnOk};
+ghost use Rattle.std.specs.Prelude.{◌≡◌, ◌*◌, ◌^◌, ◌<◌, ◌≤◌, fold, length, true, false, slice_index, vec_capacity, IfErr, OnOk};
 ghost use Rattle.reachability.specs.Queue.{after_word};
 ghost use Rattle.stopped_heap.specs.Reached.{is_below, is_within};
-ghost use Rattle.stopped_heap.specs.Meeting.{AllLead, AreMet, IsStopAt, IsStop};
+ghost use Rattle.stopped_heap.specs.Meeting.{AllLead, AreMet, AreOnce, IsShort, IsStopAt, IsStop};
 
 use heap_layout::{Edition, FROM_SPACE, is_set, set};
 
 /// Why marking stopped.
 pub(crate) enum Stop {
-    /// An allocation failed.
+    /// An allocation failed. The queue had room for fewer objects than there are words.
     Memory,
     /// The word with this number is neither null nor the address of one of the words, nor an immediate.
     Stray(usize),
@@ -30,11 +30,15 @@ fn meet(
     requires few { count ≤ 2 ^ 31 }
     requires room { count ≤ 64 * length met.old }
     requires met { AreMet queue.old.items met.old }
+    requires once { AreOnce count queue.old.items }
     ensures queue { OnOk result (queue.new.items ≡ after_word (is_below count) queue.old.items word) }
     ensures met { OnOk result (AreMet queue.new.items met.new) }
+    ensures once { OnOk result (AreOnce count queue.new.items) }
     ensures leads { OnOk result (is_within edition count word ≡ true) }
     ensures stop { IfErr result (IsStopAt edition count word k) }
+    ensures short { IfErr result (IsShort count (vec_capacity queue.old)) }
     ensures length { length met.new ≡ length met.old }
+    ensures capacity { vec_capacity queue.old ≤ vec_capacity queue.new }
 {
     let i = word.wrapping_sub(FROM_SPACE);
     if i >= count as u64 {
@@ -67,11 +71,15 @@ pub(crate) fn meet_all(
     requires few { count ≤ 2 ^ 31 }
     requires room { count ≤ 64 * length met.old }
     requires met { AreMet queue.old.items met.old }
+    requires once { AreOnce count queue.old.items }
     ensures queue { OnOk result (queue.new.items ≡ fold (after_word (is_below count)) queue.old.items words.now) }
     ensures met { OnOk result (AreMet queue.new.items met.new) }
+    ensures once { OnOk result (AreOnce count queue.new.items) }
     ensures leads { OnOk result (AllLead edition count words.now) }
     ensures stop { IfErr result (IsStop edition count words.now) }
+    ensures short { IfErr result (IsShort count (vec_capacity queue.old)) }
     ensures length { length met.new ≡ length met.old }
+    ensures capacity { vec_capacity queue.old ≤ vec_capacity queue.new }
 {
     for k in 0..words.len() {
         meet(edition, count, met, queue, words[k], k)?;

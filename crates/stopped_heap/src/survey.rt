@@ -5,41 +5,48 @@ ghost use Rattle.heap_layout.specs.Heap.{live, is_value, IsValue};
 ghost use Rattle.page_plan.specs.Sliding.{forward_value, live_words};
 ghost use Rattle.stopped_heap.specs.Reached.{AreReached, IsSound, IsFaultOf};
 ghost use Rattle.stopped_heap.specs.Settled.{lowered, settled_word, settled_words};
-ghost use Rattle.stopped_heap.specs.Surveys.{marks_of, with_roots};
+ghost use Rattle.stopped_heap.specs.Surveys.{heap_of, marks_of, with_roots};
 ghost use Rattle.stopped_heap.specs.Marks.{IsMarksFaultOf};
+ghost use Rattle.stopped_heap.specs.Tables.{IsLentFaultOf};
 
-use crate::fault::{MarksFault, SurveyFault};
+use crate::fault::{LentFault, MarksFault, SurveyFault};
 use crate::forwarding::{below, is_kept, settle_all};
+use crate::lending::fill;
 use crate::marking::mark;
 use crate::marks::{check_kept, take_marks};
 use crate::offsets::offsets;
 use crate::sliding::slide_part;
+use crate::tables::{NotSurveyed, Tables};
 use heap_layout::{Edition, FROM_SPACE};
 use std::alloc::Global;
 use std::marker::Model;
 
 /// What the roots of a heap reach, and where it slides. It borrows the words of the heap, so that nothing is written
 /// there as long as it lives: what was found is so for all its calls. Beside them it keeps two bits a word, and 4
-/// bytes for each 64 words. Contracts see it as the heap of these words whose marked objects are the live ones, with
-/// no roots.
+/// bytes for each 64 words. Contracts see the edition, the words, the indices of the live objects as `marks`, and the
+/// room of its tables; `heap_of` is the heap of these with no roots.
 #[derive(Drop)]
 pub struct Survey<'w> {
     edition: Edition,
     words: &'w [u64],
+    room: usize,
     heads: Vec<u64>,
     bits: Vec<u64>,
     counts: Vec<u32>,
+    queue: Vec<u32>,
 }
 
 impl<'w> Model for Survey<'w> {
-    ghost use Rattle.heap_layout.specs.Heap.{Heap};
-    ghost use Rattle.stopped_heap.specs.Surveys.{told, AreTables};
+    ghost use Rattle.std.specs.Prelude.{vec_capacity};
+    ghost use Rattle.stopped_heap.specs.Surveys.{surveyed, Surveyed, AreTables};
+    ghost use Rattle.stopped_heap.specs.Tables.{HaveRoom};
 
-    ghost Value = { Heap };
+    ghost Value = { Surveyed };
 
-    ghost view = { λ survey. told survey.edition survey.words.now survey.heads.items };
+    ghost view = { λ survey. surveyed survey.edition survey.words.now survey.heads.items survey.room };
 
-    ghost invariant = { λ survey. AreTables survey.edition survey.words.now survey.heads.items survey.bits.items survey.counts.items };
+    ghost invariant = { λ survey. AreTables survey.edition survey.words.now survey.heads.items survey.bits.items survey.counts.items
+        × HaveRoom survey.room (vec_capacity survey.heads) (vec_capacity survey.bits) (vec_capacity survey.counts) (vec_capacity survey.queue) };
 }
 
 impl<'w> Survey<'w> {
@@ -69,10 +76,99 @@ impl<'w> Survey<'w> {
         Ok(Survey {
             edition,
             words,
+            room: 0,
             heads,
             bits,
             counts,
+            queue: Vec::new(alloc),
         })
+    }
+
+    /// The same in tables that were made before, with no allocation, so that `OutOfMemory` never comes. Err if the words
+    /// or roots are too many for the edition; if not, if the tables have room for fewer words; and if not, with a fault
+    /// of the heap. The tables come back with the fault, with the room that they had. They are cleared for these words
+    /// only, and not for all their room.
+    pub fn of_lent(
+        tables: Tables,
+        edition: Edition,
+        words: &'w [u64],
+        roots: &[u64],
+    ) -> Result<Survey<'w>, NotSurveyed>
+        ensures reached { IfOk result (λ survey. AreReached edition words.now roots.now survey.marks) }
+        ensures sound { IfOk result (λ survey. IsSound (with_roots survey roots.now)) }
+        ensures words { IfOk result (λ survey. survey.words ≡ words.now) }
+        ensures edition { IfOk result (λ survey. survey.edition ≡ edition) }
+        ensures room { IfOk result (λ survey. survey.room ≡ tables.room) }
+        ensures fault { IfErr result (λ refused. IsLentFaultOf edition words.now roots.now tables.room refused.fault) }
+        ensures back { IfErr result (λ refused. refused.tables.room ≡ tables.room) }
+    {
+        if words.len() > edition.max_words() || roots.len() > edition.max_roots() {
+            let fault = LentFault::Survey(SurveyFault::TooLarge);
+            return Err(NotSurveyed { fault, tables });
+        }
+        if words.len() > tables.room {
+            let fault = LentFault::ShortTables(tables.room as u64);
+            return Err(NotSurveyed { fault, tables });
+        }
+        let Tables {
+            room,
+            mut heads,
+            mut bits,
+            mut counts,
+            mut queue,
+        } = tables;
+        let filled = fill(
+            edition,
+            words,
+            roots,
+            &mut heads,
+            &mut bits,
+            &mut counts,
+            &mut queue,
+        );
+        if let Err(fault) = filled {
+            let tables = Tables {
+                room,
+                heads,
+                bits,
+                counts,
+                queue,
+            };
+            let fault = LentFault::Survey(fault);
+            return Err(NotSurveyed { fault, tables });
+        }
+        Ok(Survey {
+            edition,
+            words,
+            room,
+            heads,
+            bits,
+            counts,
+            queue,
+        })
+    }
+
+    /// Gives the tables back in which it was made, with the room that they had. Those of `of` and `of_marks` have room
+    /// for no words.
+    pub fn into_tables(self) -> Tables
+        ensures { result.room ≡ self.entry.room }
+    {
+        let Survey {
+            edition: _,
+            words: _,
+            room,
+            heads,
+            bits,
+            counts,
+            queue,
+        } = self;
+        Tables {
+            room,
+            heads,
+            bits,
+            counts,
+            queue,
+        }
     }
 
     /// Surveys the heap of these words and roots by marks of the caller's own: its marked objects are those at the set
@@ -111,15 +207,17 @@ impl<'w> Survey<'w> {
         Ok(Survey {
             edition,
             words,
+            room: 0,
             heads,
             bits,
             counts,
+            queue: Vec::new(alloc),
         })
     }
 
     /// How many words the live objects have.
     pub fn live_words(&self) -> u64
-        ensures { result ≡ live_words (live self.now) }
+        ensures { result ≡ live_words (live (heap_of self.now)) }
     {
         u64::from(self.counts[self.bits.len()])
     }
@@ -127,7 +225,7 @@ impl<'w> Survey<'w> {
     /// Where a word leads after the collection: null to null, an immediate to itself, the address of a live object to
     /// the address that it has then. None for every other word. Takes constant time.
     pub fn forward(&self, word: u64) -> Option<u64>
-        ensures { result ≡ option_map (lowered self.now.edition) (forward_value self.now.edition (live self.now) word) }
+        ensures { result ≡ option_map (lowered self.now.edition) (forward_value self.now.edition (live (heap_of self.now)) word) }
     {
         if word == 0 || self.edition.is_immediate(word) {
             return Some(word);
@@ -141,8 +239,8 @@ impl<'w> Survey<'w> {
     /// Fills a part of the memory into which the heap slides: with the words that stand there after the collection,
     /// from word `first` on. Calls for several parts may run at once. The part must end within the live words.
     pub fn slide(&self, first: u64, part: &mut [u64])
-        requires { first + length part.old ≤ live_words (live self.now) }
-        ensures { part.new ≡ take (length part.old) (drop first (settled_words (live self.now))) }
+        requires { first + length part.old ≤ live_words (live (heap_of self.now)) }
+        ensures { part.new ≡ take (length part.old) (drop first (settled_words (live (heap_of self.now)))) }
     {
         slide_part(
             self.edition,
@@ -159,7 +257,7 @@ impl<'w> Survey<'w> {
     /// that is neither null nor the address of a live object, nor an immediate; then the roots are as they were.
     pub fn forward_roots(&self, roots: &mut [u64]) -> Result<(), usize>
         ensures all { OnOk result (All (IsValue self.now.edition self.now.marks) roots.old) }
-        ensures forwarded { OnOk result (roots.new ≡ map (settled_word self.now.edition (live self.now)) roots.old) }
+        ensures forwarded { OnOk result (roots.new ≡ map (settled_word self.now.edition (live (heap_of self.now))) roots.old) }
         ensures inside { IfErr result (λ k. k < length roots.old) }
         ensures stray { IfErr result (λ k. is_value self.now.edition self.now.marks (slice_index roots.old k) ≡ false) }
         ensures first { IfErr result (λ k. (j : ℕ) → j < k → is_value self.now.edition self.now.marks (slice_index roots.old j) ≡ true) }
@@ -175,7 +273,7 @@ impl<'w> Survey<'w> {
     /// Makes these weak words, of tables of the caller's own, lead to where their objects are after the collection. One
     /// that leads to no live object becomes null, and an immediate stays.
     pub fn forward_weak(&self, words: &mut [u64])
-        ensures { words.new ≡ map (settled_word self.now.edition (live self.now)) words.old }
+        ensures { words.new ≡ map (settled_word self.now.edition (live (heap_of self.now))) words.old }
     {
         settle_all(self.edition, &self.heads, &self.bits, &self.counts, words);
     }

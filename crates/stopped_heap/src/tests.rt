@@ -1,4 +1,6 @@
 //! Small heaps, with the words that a person reads off.
+mod in_place;
+mod lent;
 mod refusals;
 mod surveys;
 

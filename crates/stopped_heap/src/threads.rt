@@ -4,6 +4,7 @@ ghost use Rattle.heap_layout.specs.Heap.{live};
 ghost use Rattle.page_plan.specs.Sliding.{live_words};
 ghost use Rattle.stopped_heap.specs.Collecting.{HasCollected, RefusesCollection};
 ghost use Rattle.stopped_heap.specs.Settled.{settled_words};
+ghost use Rattle.stopped_heap.specs.Surveys.{heap_of};
 
 use crate::fault::CollectFault;
 use crate::survey::Survey;
@@ -17,8 +18,8 @@ const MAX_WORKERS: usize = 64;
 
 // Slides the part of to-space that begins at word `start`.
 fn slide_at(survey: &Survey<'_>, start: usize, part: &mut [u64])
-    requires { start + length part.old ≤ live_words (live survey.now) }
-    ensures words { (k : ℕ) → k < length part.old → slice_index part.new k ≡ slice_index (settled_words (live survey.now)) (start + k) }
+    requires { start + length part.old ≤ live_words (live (heap_of survey.now)) }
+    ensures words { (k : ℕ) → k < length part.old → slice_index part.new k ≡ slice_index (settled_words (live (heap_of survey.now))) (start + k) }
     ensures length { length part.new ≡ length part.old }
 {
     survey.slide(start as u64, part);
@@ -26,8 +27,8 @@ fn slide_at(survey: &Survey<'_>, start: usize, part: &mut [u64])
 
 // Slides into `to`, in at most so many threads: each has a part of it. No more words than live may be there.
 fn slide_by_threads<R: Threads + Sync>(rt: &R, survey: &Survey<'_>, to: &mut [u64], workers: usize)
-    requires { length to.old ≤ live_words (live survey.now) }
-    ensures words { (k : ℕ) → k < length to.old → slice_index to.new k ≡ slice_index (settled_words (live survey.now)) k }
+    requires { length to.old ≤ live_words (live (heap_of survey.now)) }
+    ensures words { (k : ℕ) → k < length to.old → slice_index to.new k ≡ slice_index (settled_words (live (heap_of survey.now))) k }
     ensures length { length to.new ≡ length to.old }
 {
     let size = to.len() / workers.clamp(1, MAX_WORKERS) + 1;

@@ -2,7 +2,7 @@ use Rattle.std.proofs.Common.{◌≡◌, ◌∙◌, arith, length-take, length-d
 use Rattle.std.proofs.lemmas.List.{take_all}
 use Rattle.heap_layout.specs.Heap.{live}
 use Rattle.stopped_heap.specs.Settled.{settled_words}
-use Rattle.stopped_heap.specs.Surveys.{with_roots}
+use Rattle.stopped_heap.specs.Surveys.{heap_of, with_roots}
 use Rattle.stopped_heap.proofs.Settling.{settled-all}
 use Rattle.stopped_heap.proofs.Whole.{no-room, is-collected}
 use Rattle.stopped_heap.proofs.collecting.collect.Goals as goal
@@ -17,7 +17,7 @@ pub returns-clause-collected : goal.returns-clause-collected
 returns-clause-collected c =
     let survey = c.in-Ok.survey in
     let roots = c.args.roots.now in
-    let all = settled_words (live survey) in
+    let all = settled_words (live (heap_of survey)) in
     let many = settled-all (with_roots survey roots) c.in-Ok.ensures.sound in
     let filled : c.slide.new.part ≡ all = c.slide.ensures ∙ take_all _ all (simp (length-take, length-drop) (omega (arith, c.live_words-live.ensures, many))) in
     is-collected survey c.args.edition c.args.words.now roots c.in-Ok.ensures.edition c.in-Ok.ensures.words c.in-Ok.ensures.reached c.in-Ok.ensures.sound

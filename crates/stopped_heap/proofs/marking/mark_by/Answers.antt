@@ -8,20 +8,25 @@ use Rattle.reachability.specs.Queue.{after_word}
 use Rattle.stopped_heap.specs.Reached.{is_below, IsWordOf, IsReachedFrom, IsFaultOf}
 use Rattle.stopped_heap.specs.Meeting.{AllLead}
 use Rattle.stopped_heap.specs.declared.fault.SurveyFault.TheVariants.{Overlap}
+use Rattle.stopped_heap.proofs.Queued.{once-none}
 use Rattle.stopped_heap.proofs.Reaching.{references_of, followed-first, followed-next, followed-inside, followed-few, all-followed, reached-at}
 use Rattle.stopped_heap.proofs.Refusing.{bad-reference, bad-weak, overlapping}
 use Rattle.stopped_heap.proofs.Spread.{spread-first, spread-next, spread-done, spread-only, spread-apart}
 use Rattle.stopped_heap.proofs.marking.mark_by.Goals as goal
 
+pub meet_all-requires-clause-once : goal.meet_all-requires-clause-once
+meet_all-requires-clause-once c = rw c.requires.empty (once-none (length c.args.words.now))
+
 pub loop-next-init : goal.loop-next-init
 loop-next-init c =
     let row = is_below (length c.args.words.now) in
-    let from = c.in-Ok.ensures.queue ∙ ap (λ (queue : List ℕ). fold (after_word row) queue c.args.roots.now) c.new-queue.ensures.items in
+    let from = c.in-Ok.ensures.queue ∙ ap (λ (queue : List ℕ). fold (after_word row) queue c.args.roots.now) c.requires.empty in
     record {
       followed = followed-first c.args.edition c.args.words.now c.args.roots.now c.meet_all.new.queue.items from;
       spread = spread-first c.args.edition c.args.words.now c.meet_all.new.queue.items c.meet_all.new.met c.args.bits.now
           c.in-Ok.ensures.met (c.meet_all.ensures.length ∙ sym c.requires.long) c.requires.no_bits;
       long = c.meet_all.ensures.length;
+      room = c.meet_all.ensures.capacity;
     }
 
 pub bounds-words-i : goal.bounds-words-i
@@ -127,6 +132,7 @@ loop-next-preserved c =
           (subst (λ (n : ℕ). AllLead e (length words) (object_at e words n).references) here references_at)
           (subst (λ (n : ℕ). AllLead e (length words) (object_at e words n).weak) here weak_at);
       long = c.meet_all-in-loop-next.ensures.length ∙ c.loop-next.invariant.long;
+      room = omega (arith, c.meet_all-in-loop-next.ensures.capacity, c.loop-next.invariant.room);
     }
 
 pub returns-clause-all : goal.returns-clause-all

@@ -1,4 +1,4 @@
-use Rattle.std.proofs.Common.{◌≡◌, length, ◌-◌}
+use Rattle.std.proofs.Common.{◌≡◌, length, ◌-◌, ◌≤◌, vec_capacity}
 use Rattle.stopped_heap.proofs.Reaching.{IsFollowed}
 use Rattle.stopped_heap.proofs.Spread.{IsSpread}
 use Rattle.stopped_heap.proofs.marking.mark_by.Given as goal
@@ -8,6 +8,7 @@ invariant-loop-next l = record {
   followed : IsFollowed l.edition l.words l.roots l.queue.items l.next;
   spread : IsSpread l.edition l.words l.queue.items l.next l.heads l.bits;
   long : length l.heads ≡ length l.fn.heads;
+  room : vec_capacity l.fn.queue ≤ vec_capacity l.queue;
 }
 
 abbrev pub decreases-loop-next : goal.decreases-loop-next

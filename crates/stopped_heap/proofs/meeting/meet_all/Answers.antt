@@ -15,5 +15,7 @@ loop-k-preserved c =
           ∙ sym (ap (step c.loop-k.queue.items) (drop_more words i 0 (omega arith))) ∙ c.loop-k.invariant.queue;
       met = c.in_ok-meet.ensures.met;
       leads = below_more _ _ c.loop-k.invariant.leads c.in_ok-meet.ensures.leads;
+      once = c.in_ok-meet.ensures.once;
       same = c.meet.ensures.length ∙ c.loop-k.invariant.same;
+      room = omega (arith, c.meet.ensures.capacity, c.loop-k.invariant.room);
     }

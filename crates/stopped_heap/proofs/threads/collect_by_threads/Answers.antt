@@ -2,7 +2,7 @@ use Rattle.std.proofs.Common.{◌≡◌, length, ◌∙◌, arith, length-take}
 use Rattle.std.proofs.lemmas.Grind.{same_number_lists}
 use Rattle.heap_layout.specs.Heap.{live}
 use Rattle.stopped_heap.specs.Settled.{settled_words}
-use Rattle.stopped_heap.specs.Surveys.{with_roots}
+use Rattle.stopped_heap.specs.Surveys.{heap_of, with_roots}
 use Rattle.stopped_heap.proofs.Settling.{settled-all}
 use Rattle.stopped_heap.proofs.Whole.{no-room, is-collected}
 use Rattle.stopped_heap.proofs.threads.collect_by_threads.Goals as goal
@@ -17,7 +17,7 @@ pub returns-clause-collected : goal.returns-clause-collected
 returns-clause-collected g c =
     let survey = c.in-Ok.survey in
     let roots = c.args.roots.now in
-    let all = settled_words (live survey) in
+    let all = settled_words (live (heap_of survey)) in
     let many = settled-all (with_roots survey roots) c.in-Ok.ensures.sound in
     let long : length c.slide_by_threads.new.to ≡ length all = c.slide_by_threads.ensures.length ∙ simp length-take (omega (arith, c.live_words-live.ensures, many)) in
     let filled : c.slide_by_threads.new.to ≡ all =

@@ -8,6 +8,7 @@ use Rattle.mark_tables.specs.LiveWords.{live_below}
 use Rattle.page_plan.specs.Sliding.{forward_value}
 use Rattle.reachability.specs.Queue.{is_address}
 use Rattle.stopped_heap.specs.Settled.{lowered}
+use Rattle.stopped_heap.specs.Surveys.{heap_of}
 use Rattle.stopped_heap.proofs.Settling.{forward-found, forward-lost}
 use Rattle.stopped_heap.proofs.survey.Survey.forward.Goals as goal
 
@@ -17,8 +18,8 @@ returns-then-not-is_kept c =
     let inside = c.self.inside in
     let kept : is_address (bit inside.heads.items) word ≡ false = ap (λ (heads : List ℕ). is_address (bit heads) word) (sym c.deref.ensures.value) ∙ sym c.is_kept.ensures ∙ c.if-not-is_kept.true in
     let plain : is_immediate inside.edition word ≡ false = sym c.is_immediate.ensures ∙ c.if-is_immediate.false in
-    subst (λ (heap : Heap). None ≡ option_map (lowered heap.edition) (forward_value heap.edition (live heap) word)) c.self.view_is
-    (forward-lost inside.edition inside.words.now inside.heads.items inside.bits.items inside.counts.items c.self.invariant word plain c.if-word-eq0.false kept)
+    subst (λ (heap : Heap). None ≡ option_map (lowered heap.edition) (forward_value heap.edition (live heap) word)) (ap heap_of c.self.view_is)
+    (forward-lost inside.edition inside.words.now inside.heads.items inside.bits.items inside.counts.items c.self.invariant.0 word plain c.if-word-eq0.false kept)
 
 pub returns : goal.returns
 returns c =
@@ -28,6 +29,6 @@ returns c =
     let plain : is_immediate inside.edition word ≡ false = sym c.is_immediate.ensures ∙ c.if-is_immediate.false in
     let counted : c.below.result ≡ live_below (set_bits inside.bits.items) (word - 2 ^ 32) =
     c.below.ensures.below ∙ ap (λ (bits : List ℕ). live_below (set_bits bits) (word - 2 ^ 32)) c.deref-2.ensures.value in
-    subst (λ (heap : Heap). Some (2 ^ 32 + c.below.result) ≡ option_map (lowered heap.edition) (forward_value heap.edition (live heap) word)) c.self.view_is
+    subst (λ (heap : Heap). Some (2 ^ 32 + c.below.result) ≡ option_map (lowered heap.edition) (forward_value heap.edition (live heap) word)) (ap heap_of c.self.view_is)
     (ap (λ (n : ℕ). Some (2 ^ 32 + n)) counted
-    ∙ forward-found inside.edition inside.words.now inside.heads.items inside.bits.items inside.counts.items c.self.invariant word plain kept)
+    ∙ forward-found inside.edition inside.words.now inside.heads.items inside.bits.items inside.counts.items c.self.invariant.0 word plain kept)

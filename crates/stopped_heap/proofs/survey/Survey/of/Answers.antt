@@ -74,9 +74,12 @@ invariant_of-result c =
     let counts = c.in_ok-counts.counts.items in
     let whole = take_at bits (drop (length bits) c.in_ok-bits.bits.items) c.in_ok-bits.bits.len bits_long in
     let offsets : AreOffsets bits counts = subst (λ (bs : List ℕ). AreOffsets bs counts) (c.deref.ensures.value ∙ whole) c.in_ok-counts.ensures in
-    rw (take_at heads (drop (length heads) c.in_ok-heads.heads.items) c.in_ok-heads.heads.len heads_long, whole) (record {
-      sound = told-sound edition words roots heads bits marked;
-      indices = told-indices edition words roots heads bits marked;
-      offsets = offsets;
-      same = omega (arith, heads_long, bits_long, c.in_ok-heads.ensures.len, c.in_ok-bits.ensures.len);
-    })
+    rw (take_at heads (drop (length heads) c.in_ok-heads.heads.items) c.in_ok-heads.heads.len heads_long, whole) (
+      record {
+        sound = told-sound edition words roots heads bits marked;
+        indices = told-indices edition words roots heads bits marked;
+        offsets = offsets;
+        same = omega (arith, heads_long, bits_long, c.in_ok-heads.ensures.len, c.in_ok-bits.ensures.len);
+      },
+      record { for_heads = omega arith; for_bits = omega arith; for_counts = omega (arith, c.in_ok-counts.ensures.long); for_queue = omega arith },
+    )

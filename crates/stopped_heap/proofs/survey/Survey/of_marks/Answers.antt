@@ -23,13 +23,16 @@ invariant_of-result c =
     let bits_long : length bits ≡ c.in_ok-bits.bits.len = grind (arith, common_steps, c.take_marks.ensures.long) in
     let whole = take_at bits (drop (length bits) c.in_ok-bits.bits.items) c.in_ok-bits.bits.len bits_long in
     let offsets : AreOffsets bits counts = subst (λ (bs : List ℕ). AreOffsets bs counts) (c.deref.ensures.value ∙ whole) c.in_ok-counts.ensures in
-    rw (c.in_ok-heads.ensures.items, whole) (record {
-      sound = told-sound edition words roots heads bits few few_roots c.in_default.ensures.all taken.kept taken.apart;
-      indices = told-indices edition words roots heads bits few few_roots c.in_default.ensures.all taken.kept taken.apart taken.run taken.only
-          (omega (arith, bits_long, c.in_ok-bits.ensures.len, c.div_ceil-blocks.ensures));
-      offsets = offsets;
-      same = omega (arith, bits_long, c.in_ok-bits.ensures.len, c.if-marks-blocks.false);
-    })
+    rw (c.in_ok-heads.ensures.items, whole) (
+      record {
+        sound = told-sound edition words roots heads bits few few_roots c.in_default.ensures.all taken.kept taken.apart;
+        indices = told-indices edition words roots heads bits few few_roots c.in_default.ensures.all taken.kept taken.apart taken.run taken.only
+            (omega (arith, bits_long, c.in_ok-bits.ensures.len, c.div_ceil-blocks.ensures));
+        offsets = offsets;
+        same = omega (arith, bits_long, c.in_ok-bits.ensures.len, c.if-marks-blocks.false);
+      },
+      record { for_heads = omega arith; for_bits = omega arith; for_counts = omega (arith, c.in_ok-counts.ensures.long); for_queue = omega arith },
+    )
 
 pub returns-clause-sound : goal.returns-clause-sound
 returns-clause-sound c =

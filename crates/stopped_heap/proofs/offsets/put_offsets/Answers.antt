@@ -1,7 +1,7 @@
-use Rattle.std.proofs.Common.{get_or, refl, arith}
+use Rattle.std.proofs.Common.{get_or, refl, ◌∙◌, arith}
 use Rattle.std.proofs.lemmas.Nat.{ones-le}
 use Rattle.stopped_heap.proofs.Counts.{counted-few, counted-next, counted-all}
-use Rattle.stopped_heap.proofs.offsets.offsets.Goals as goal
+use Rattle.stopped_heap.proofs.offsets.put_offsets.Goals as goal
 
 pub overflow_add-total : goal.overflow_add-total
 overflow_add-total c =
@@ -16,10 +16,12 @@ loop-block-preserved c =
     record {
       counted = rw c.push_reserved.ensures.items
           (counted-next bits c.loop-block.offsets.items b c.loop-block.total (get_or bits b 0) c.loop-block.invariant.counted (omega (arith, c.type_inv.bits b)) refl);
-      room = omega (arith, c.loop-block.invariant.room, c.push_reserved.ensures.capacity);
+      room = c.push_reserved.ensures.capacity ∙ c.loop-block.invariant.room;
     }
 
 pub returns : goal.returns
-returns c =
-    rw c.push_reserved-2.ensures.items
-    (counted-all c.args.bits.now c.loop-block.offsets.items c.loop-block.block-index c.loop-block.total c.requires (omega arith) c.loop-block.invariant.counted)
+returns c = record {
+  offsets = rw c.push_reserved-2.ensures.items
+      (counted-all c.args.bits.now c.loop-block.offsets.items c.loop-block.block-index c.loop-block.total c.requires.few (omega arith) c.loop-block.invariant.counted);
+  capacity = c.push_reserved-2.ensures.capacity ∙ c.loop-block.invariant.room;
+}

@@ -1,0 +1,167 @@
+//! A collection within the memory of the heap.
+ghost use Rattle.std.specs.Prelude.{◌≡◌, ◌≢◌, ◌≤◌, length, vec_capacity, IfOk, IfErr, OnErr};
+ghost use Rattle.heap_layout.specs.Limits.{most_words, most_roots};
+ghost use Rattle.stopped_heap.specs.Collecting.{HasCollected};
+ghost use Rattle.stopped_heap.specs.Reached.{AreReached, IsSound, IsFaultOf};
+ghost use Rattle.stopped_heap.specs.Surveys.{marks_of, AreTables};
+ghost use Rattle.stopped_heap.specs.Tables.{HaveRoom, IsLentFaultOf};
+ghost use Rattle.stopped_heap.specs.declared.fault.SurveyFault.TheVariants as survey;
+
+use crate::fault::{LentFault, SurveyFault};
+use crate::forwarding::settle_all;
+use crate::lending::fill;
+use crate::marking::mark;
+use crate::offsets::offsets;
+use crate::sliding_down::slide_down;
+use crate::tables::Tables;
+use heap_layout::Edition;
+use std::alloc::Global;
+
+// What a survey keeps: the bits of the first words of the live objects, those of all their words, and the offsets of
+// the blocks of the latter.
+#[derive(Drop)]
+struct Found {
+    heads: Vec<u64>,
+    bits: Vec<u64>,
+    counts: Vec<u32>,
+}
+
+// The tables of what the roots reach, made for these words. Err with a fault that is there, or with `OutOfMemory`.
+fn tables_of(
+    alloc: Global,
+    edition: Edition,
+    words: &[u64],
+    roots: &[u64],
+) -> Result<Found, SurveyFault>
+    ensures reached { IfOk result (λ tables. AreReached edition words.now roots.now (marks_of tables.heads.items)) }
+    ensures sound { IfOk result (λ tables. IsSound (record { edition = edition; words = words.now; marks = marks_of tables.heads.items; roots = roots.now })) }
+    ensures tables { IfOk result (λ tables. AreTables edition words.now tables.heads.items tables.bits.items tables.counts.items) }
+    ensures fault { IfErr result (IsFaultOf edition words.now roots.now) }
+{
+    if words.len() > edition.max_words() || roots.len() > edition.max_roots() {
+        return Err(SurveyFault::TooLarge);
+    }
+    let blocks = words.len().div_ceil(64);
+    let mut heads = vec![in alloc; 0u64; blocks]?;
+    let mut bits = vec![in alloc; 0u64; blocks]?;
+    mark(alloc, edition, words, roots, &mut heads, &mut bits)?;
+    let counts = offsets(alloc, &bits)?;
+    Ok(Found {
+        heads,
+        bits,
+        counts,
+    })
+}
+
+// Slides what these tables have down to the beginning of the words, and makes the roots lead there. Answers the number of
+// live words.
+fn slide_home(
+    edition: Edition,
+    heads: &[u64],
+    bits: &[u64],
+    counts: &[u32],
+    words: &mut [u64],
+    roots: &mut [u64],
+) -> u64
+    requires { AreTables edition words.old heads.now bits.now counts.now }
+    ensures { AreReached edition words.old roots.old (marks_of heads.now)
+        → IsSound (record { edition = edition; words = words.old; marks = marks_of heads.now; roots = roots.old })
+        → HasCollected edition words.old roots.old result roots.new words.old words.new }
+{
+    slide_down(edition, heads, bits, counts, words);
+    // Each root was met, so none leads astray, and none becomes null.
+    settle_all(edition, heads, bits, counts, roots);
+    u64::from(counts[bits.len()])
+}
+
+/// Collects the heap of these words and roots within the words, with no second memory: slides what the roots reach down
+/// to the beginning of the words, and makes the roots lead there. Ok with the number of live words, which are the first
+/// ones then; the words behind them are as they were. So the words are those that `collect` leaves in a memory that
+/// held them. Err if the heap is refused, or if memory for the tables runs out; then neither the words nor the roots
+/// have changed. Beside the words it takes two bits a word, 4 bytes for each 64 words, and 4 for each object that is
+/// reached.
+pub fn collect_in_place(
+    alloc: Global,
+    edition: Edition,
+    words: &mut [u64],
+    roots: &mut [u64],
+) -> Result<u64, SurveyFault>
+    ensures collected { IfOk result (λ live. HasCollected edition words.old roots.old live roots.new words.old words.new) }
+    ensures fault { IfErr result (IsFaultOf edition words.old roots.old) }
+    ensures words_stay { OnErr result (words.new ≡ words.old) }
+    ensures roots_stay { OnErr result (roots.new ≡ roots.old) }
+{
+    let tables = tables_of(alloc, edition, words, roots)?;
+    Ok(slide_home(
+        edition,
+        &tables.heads,
+        &tables.bits,
+        &tables.counts,
+        words,
+        roots,
+    ))
+}
+
+// Collects the heap within its words by these tables, in which there must be room.
+fn collect_within(
+    edition: Edition,
+    words: &mut [u64],
+    roots: &mut [u64],
+    heads: &mut Vec<u64>,
+    bits: &mut Vec<u64>,
+    counts: &mut Vec<u32>,
+    queue: &mut Vec<u32>,
+) -> Result<u64, SurveyFault>
+    requires sizes { (length words.old ≤ most_words edition) × (length roots.old ≤ most_roots edition) }
+    requires room { HaveRoom (length words.old) (vec_capacity heads.old) (vec_capacity bits.old) (vec_capacity counts.old) (vec_capacity queue.old) }
+    ensures collected { IfOk result (λ live. HasCollected edition words.old roots.old live roots.new words.old words.new) }
+    ensures fault { IfErr result (IsFaultOf edition words.old roots.old) }
+    ensures never { IfErr result (λ fault. fault ≢ survey.OutOfMemory) }
+    ensures words_stay { OnErr result (words.new ≡ words.old) }
+    ensures roots_stay { OnErr result (roots.new ≡ roots.old) }
+    ensures heads { vec_capacity heads.old ≤ vec_capacity heads.new }
+    ensures bits { vec_capacity bits.old ≤ vec_capacity bits.new }
+    ensures counts { vec_capacity counts.old ≤ vec_capacity counts.new }
+    ensures queue { vec_capacity queue.old ≤ vec_capacity queue.new }
+{
+    if let Err(fault) = fill(edition, words, roots, heads, bits, counts, queue) {
+        return Err(fault);
+    }
+    Ok(slide_home(edition, heads, bits, counts, words, roots))
+}
+
+/// Like `collect_in_place`, by tables that were made before, with no allocation, so that `OutOfMemory` never comes. Err
+/// also if the tables have room for fewer words than there are; that is asked first, but for the limits of the edition.
+/// The tables keep their room.
+pub fn collect_in_place_lent(
+    tables: &mut Tables,
+    edition: Edition,
+    words: &mut [u64],
+    roots: &mut [u64],
+) -> Result<u64, LentFault>
+    ensures collected { IfOk result (λ live. HasCollected edition words.old roots.old live roots.new words.old words.new) }
+    ensures fault { IfErr result (IsLentFaultOf edition words.old roots.old tables.old.room) }
+    ensures words_stay { OnErr result (words.new ≡ words.old) }
+    ensures roots_stay { OnErr result (roots.new ≡ roots.old) }
+    ensures room { tables.new.room ≡ tables.old.room }
+{
+    if words.len() > edition.max_words() || roots.len() > edition.max_roots() {
+        return Err(LentFault::Survey(SurveyFault::TooLarge));
+    }
+    if words.len() > tables.room {
+        return Err(LentFault::ShortTables(tables.room as u64));
+    }
+    let collected = collect_within(
+        edition,
+        words,
+        roots,
+        &mut tables.heads,
+        &mut tables.bits,
+        &mut tables.counts,
+        &mut tables.queue,
+    );
+    match collected {
+        Ok(live) => Ok(live),
+        Err(fault) => Err(LentFault::Survey(fault)),
+    }
+}
