@@ -27,3 +27,5 @@ pub mod Whole
 pub mod Moving
 pub mod SlidingDown
 pub mod InPlace
+pub mod Leading
+pub mod Lasting

@@ -8,3 +8,4 @@ pub mod Looking
 pub mod Parts
 pub mod Tables
 pub mod InPlace
+pub mod Rounds

@@ -1,5 +1,5 @@
 //! What the roots reach, and where it slides.
-ghost use Rattle.std.specs.Prelude.{◌≡◌, ℕ, ◌+◌, ◌<◌, ◌≤◌, false, true, length, drop, map, take, slice_index, All, IfErr, IfOk, OnErr, OnOk};
+ghost use Rattle.std.specs.Prelude.{◌≡◌, ℕ, ◌+◌, ◌<◌, ◌≤◌, false, true, length, drop, map, take, slice_index, All, IfErr, IfOk, IfSome, OnErr, OnOk};
 ghost use Rattle.std.specs.Option.{option_map};
 ghost use Rattle.heap_layout.specs.Heap.{live, is_value, IsValue};
 ghost use Rattle.page_plan.specs.Sliding.{forward_value, live_words};
@@ -15,11 +15,19 @@ use crate::lending::fill;
 use crate::marking::mark;
 use crate::marks::{check_kept, take_marks};
 use crate::offsets::offsets;
+use crate::rounds::{MAX_WORKERS, reach};
 use crate::sliding::slide_part;
 use crate::tables::{NotSurveyed, Tables};
 use heap_layout::{Edition, FROM_SPACE};
 use std::alloc::Global;
 use std::marker::Model;
+use std::thread::Threads;
+
+// With fewer words than these one thread surveys alone.
+const LONG: usize = 65_536;
+
+// With fewer objects than these in the queue one thread follows them alone: starting threads costs more.
+const WIDE: usize = 8_192;
 
 /// What the roots of a heap reach, and where it slides. It borrows the words of the heap, so that nothing is written
 /// there as long as it lives: what was found is so for all its calls. Beside them it keeps two bits a word, and 4
@@ -74,6 +82,88 @@ impl<'w> Survey<'w> {
         mark(alloc, edition, words, roots, &mut heads, &mut bits)?;
         let counts = offsets(alloc, &bits)?;
         Ok(Survey {
+            edition,
+            words,
+            room: 0,
+            heads,
+            bits,
+            counts,
+            queue: Vec::new(alloc),
+        })
+    }
+
+    /// Like `of`, in at most so many threads, the caller among them, and 64 at most; the survey is the same, and so is a
+    /// fault. With none or one the caller surveys alone, and so it does for fewer than 65,536 words. Threads are started
+    /// while 8,192 objects or more wait to be looked at: it gains where that is often so, as in trees, graphs and tables,
+    /// and the objects lie far apart. A list is surveyed as by one thread, and takes somewhat longer than by `of`.
+    ///
+    /// While threads are at work each has a list of four bytes for each reference that leads to an object that was not
+    /// met when they began. Where there is no memory for that, and where a fault is met, the caller surveys anew, alone:
+    /// so no heap is refused that `of` surveys.
+    pub fn of_by_threads<R: Threads + Sync>(
+        alloc: Global,
+        rt: &R,
+        workers: usize,
+        edition: Edition,
+        words: &'w [u64],
+        roots: &[u64],
+    ) -> Result<Survey<'w>, SurveyFault>
+        ensures reached { IfOk result (λ survey. AreReached edition words.now roots.now survey.marks) }
+        ensures sound { IfOk result (λ survey. IsSound (with_roots survey roots.now)) }
+        ensures words { IfOk result (λ survey. survey.words ≡ words.now) }
+        ensures edition { IfOk result (λ survey. survey.edition ≡ edition) }
+        ensures fault { IfErr result (IsFaultOf edition words.now roots.now) }
+    {
+        if workers > 1 && words.len() >= LONG {
+            let workers = workers.min(MAX_WORKERS);
+            if let Some(survey) = Survey::of_rounds(
+                alloc, rt, workers, WIDE, edition, words, roots,
+            ) {
+                return Ok(survey);
+            }
+        }
+        Survey::of(alloc, edition, words, roots)
+    }
+
+    // Surveys in so many threads where `wide` objects or more wait in the queue. None if a fault is there, or memory runs
+    // out.
+    pub(crate) fn of_rounds<R: Threads + Sync>(
+        alloc: Global,
+        rt: &R,
+        workers: usize,
+        wide: usize,
+        edition: Edition,
+        words: &'w [u64],
+        roots: &[u64],
+    ) -> Option<Survey<'w>>
+        requires workers { 0 < workers }
+        ensures reached { IfSome result (λ survey. AreReached edition words.now roots.now survey.marks) }
+        ensures sound { IfSome result (λ survey. IsSound (with_roots survey roots.now)) }
+        ensures words { IfSome result (λ survey. survey.words ≡ words.now) }
+        ensures edition { IfSome result (λ survey. survey.edition ≡ edition) }
+    {
+        if words.len() > edition.max_words() || roots.len() > edition.max_roots() {
+            return None;
+        }
+        let blocks = words.len().div_ceil(64);
+        let Ok(mut heads) = vec![in alloc; 0u64; blocks] else {
+            return None;
+        };
+        if !reach(alloc, rt, workers, wide, edition, words, roots, &mut heads) {
+            return None;
+        }
+        let Ok(mut bits) = vec![in alloc; 0u64; blocks] else {
+            return None;
+        };
+        if check_kept(edition, &heads, roots).is_err()
+            || take_marks(edition, words, &heads, &mut bits).is_err()
+        {
+            return None;
+        }
+        let Ok(counts) = offsets(alloc, &bits) else {
+            return None;
+        };
+        Some(Survey {
             edition,
             words,
             room: 0,

@@ -2,6 +2,7 @@
 mod in_place;
 mod lent;
 mod refusals;
+mod rounds;
 mod surveys;
 
 use crate::{CollectFault, SurveyFault, collect, collect_by_threads};
