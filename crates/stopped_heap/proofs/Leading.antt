@@ -9,7 +9,7 @@ use Rattle.heap_layout.specs.Heap.{from_address, object_at}
 use Rattle.reachability.proofs.Queues.{has-at}
 use Rattle.reachability.proofs.Rising.{contains-had}
 use Rattle.stopped_heap.specs.Reached.{LeadInto, IsReachedFrom, by_root, by_reference}
-use Rattle.stopped_heap.specs.Rounds.{AreReaching, LeadToReached}
+use Rattle.stopped_heap.specs.Rounds.{AreReaching, IsReachedBy, LeadToReached}
 
 -- a word that is the address of an object leads there
 pub led-at : (words from : List ℕ) (k i d : ℕ) → k < length from → i < length words → get_or from k d ≡ from_address i → LeadInto words from i
@@ -44,3 +44,7 @@ reaching-more edition words roots queue old new i are reached elsewhere = record
     | inr other ↦ are.marked j (sym (elsewhere j other) ∙ set)
   ];
 }
+
+-- words that lead to objects that are reached, one by one
+pub word-reached : (edition : Edition) (words roots from : List ℕ) (k : ℕ) → LeadToReached edition words roots from → k < length from → IsReachedBy edition words roots (get_or from k 0)
+word-reached edition words roots from k lead lt i inside address = lead i (led-at words from k i 0 lt inside address)

@@ -8,9 +8,10 @@
 ghost use Rattle.std.specs.Prelude.{◌≡◌, ℕ, ◌*◌, ◌^◌, ◌<◌, ◌≤◌, true, false, All, length, IfOk, IfSome};
 ghost use Rattle.heap_layout.specs.Bits.{bit};
 ghost use Rattle.stopped_heap.specs.Reached.{IsReachedFrom};
-ghost use Rattle.stopped_heap.specs.Rounds.{AreReaching, IsFoundPart};
+ghost use Rattle.stopped_heap.specs.Rounds.{AreAllMarked, AreReaching, IsFoundPart};
 
 use crate::found::{follow, found_by, meet_led, meet_parts};
+use crate::marks::{check_kept, take_marks};
 use heap_layout::Edition;
 use std::alloc::{AllocError, Global};
 use std::thread;
@@ -139,10 +140,10 @@ fn follow_some<R: Threads + Sync>(
     Some(end)
 }
 
-/// Sets the bits of objects that the roots reach, and no others, in so many threads where `wide` objects or more wait.
-/// No bit may be set before. The answer is false if memory runs out, or an object is too long for the edition or ends
-/// past the words.
-pub(crate) fn reach<R: Threads + Sync>(
+// Sets the bits of objects that the roots reach, and no others, in so many threads where `wide` objects or more wait.
+// No bit may be set before. The answer is false if memory runs out, or an object is too long for the edition or ends
+// past the words.
+fn reach<R: Threads + Sync>(
     alloc: Global,
     rt: &R,
     workers: usize,
@@ -174,6 +175,43 @@ pub(crate) fn reach<R: Threads + Sync>(
         };
         next = end;
         turns -= 1;
+    }
+    true
+}
+
+/// Sets the bits of the objects that the roots reach in `heads`, and those of all their words in `bits`, in so many
+/// threads where `wide` objects or more wait. No bit may be set before. The answer is false if there is a fault, or
+/// memory runs out.
+pub(crate) fn mark_by_threads<R: Threads + Sync>(
+    alloc: Global,
+    rt: &R,
+    workers: usize,
+    wide: usize,
+    edition: Edition,
+    words: &[u64],
+    roots: &[u64],
+    heads: &mut [u64],
+    bits: &mut [u64],
+) -> bool
+    requires workers { 0 < workers }
+    requires few { length words.now ≤ 2 ^ 31 }
+    requires few_bits { length heads.old ≤ 2 ^ 25 }
+    requires room { length words.now ≤ 64 * length heads.old }
+    requires long { length bits.old ≡ length heads.old }
+    requires no_heads { (i : ℕ) → bit heads.old i ≡ false }
+    requires no_bits { (i : ℕ) → bit bits.old i ≡ false }
+    ensures marked { result ≡ true → AreAllMarked edition words.now roots.now heads.new bits.new }
+    ensures same { length heads.new ≡ length heads.old }
+    ensures long { length bits.new ≡ length bits.old }
+{
+    if !reach(alloc, rt, workers, wide, edition, words, roots, heads) {
+        return false;
+    }
+    if let Err(_) = check_kept(edition, heads, roots) {
+        return false;
+    }
+    if let Err(_) = take_marks(edition, words, heads, bits) {
+        return false;
     }
     true
 }

@@ -15,7 +15,7 @@ use crate::lending::fill;
 use crate::marking::mark;
 use crate::marks::{check_kept, take_marks};
 use crate::offsets::offsets;
-use crate::rounds::{MAX_WORKERS, reach};
+use crate::rounds::{MAX_WORKERS, mark_by_threads};
 use crate::sliding::slide_part;
 use crate::tables::{NotSurveyed, Tables};
 use heap_layout::{Edition, FROM_SPACE};
@@ -149,15 +149,12 @@ impl<'w> Survey<'w> {
         let Ok(mut heads) = vec![in alloc; 0u64; blocks] else {
             return None;
         };
-        if !reach(alloc, rt, workers, wide, edition, words, roots, &mut heads) {
-            return None;
-        }
         let Ok(mut bits) = vec![in alloc; 0u64; blocks] else {
             return None;
         };
-        if check_kept(edition, &heads, roots).is_err()
-            || take_marks(edition, words, &heads, &mut bits).is_err()
-        {
+        if !mark_by_threads(
+            alloc, rt, workers, wide, edition, words, roots, &mut heads, &mut bits,
+        ) {
             return None;
         }
         let Ok(counts) = offsets(alloc, &bits) else {
