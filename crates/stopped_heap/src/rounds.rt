@@ -5,7 +5,7 @@
 //!
 //! Nothing here shows that all was met. That, and that each object is sound, is asked afterwards of the objects that
 //! were met, in the order of their addresses.
-ghost use Rattle.std.specs.Prelude.{◌≡◌, ℕ, ◌*◌, ◌^◌, ◌<◌, ◌≤◌, true, false, All, length, IfOk, IfSome};
+ghost use Rattle.std.specs.Prelude.{◌≡◌, ℕ, ◌*◌, ◌^◌, ◌<◌, ◌≤◌, true, false, All, length, IfOk, IfSome, OnOk};
 ghost use Rattle.heap_layout.specs.Bits.{bit};
 ghost use Rattle.stopped_heap.specs.Reached.{IsReachedFrom};
 ghost use Rattle.stopped_heap.specs.Rounds.{AreAllMarked, AreReaching, IsFoundPart};
@@ -180,8 +180,8 @@ fn reach<R: Threads + Sync>(
 }
 
 /// Sets the bits of the objects that the roots reach in `heads`, and those of all their words in `bits`, in so many
-/// threads where `wide` objects or more wait. No bit may be set before. The answer is false if there is a fault, or
-/// memory runs out.
+/// threads where `wide` objects or more wait. No bit may be set before. Err if memory runs out, and where there is a
+/// fault too: one thread finds it.
 pub(crate) fn mark_by_threads<R: Threads + Sync>(
     alloc: Global,
     rt: &R,
@@ -192,7 +192,7 @@ pub(crate) fn mark_by_threads<R: Threads + Sync>(
     roots: &[u64],
     heads: &mut [u64],
     bits: &mut [u64],
-) -> bool
+) -> Result<(), AllocError>
     requires workers { 0 < workers }
     requires few { length words.now ≤ 2 ^ 31 }
     requires few_bits { length heads.old ≤ 2 ^ 25 }
@@ -200,18 +200,18 @@ pub(crate) fn mark_by_threads<R: Threads + Sync>(
     requires long { length bits.old ≡ length heads.old }
     requires no_heads { (i : ℕ) → bit heads.old i ≡ false }
     requires no_bits { (i : ℕ) → bit bits.old i ≡ false }
-    ensures marked { result ≡ true → AreAllMarked edition words.now roots.now heads.new bits.new }
+    ensures marked { OnOk result (AreAllMarked edition words.now roots.now heads.new bits.new) }
     ensures same { length heads.new ≡ length heads.old }
     ensures long { length bits.new ≡ length bits.old }
 {
     if !reach(alloc, rt, workers, wide, edition, words, roots, heads) {
-        return false;
+        return Err(AllocError);
     }
     if let Err(_) = check_kept(edition, heads, roots) {
-        return false;
+        return Err(AllocError);
     }
     if let Err(_) = take_marks(edition, words, heads, bits) {
-        return false;
+        return Err(AllocError);
     }
-    true
+    Ok(())
 }

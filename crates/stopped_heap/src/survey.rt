@@ -1,5 +1,5 @@
 //! What the roots reach, and where it slides.
-ghost use Rattle.std.specs.Prelude.{◌≡◌, ℕ, ◌+◌, ◌<◌, ◌≤◌, false, true, length, drop, map, take, slice_index, All, IfErr, IfOk, IfSome, OnErr, OnOk};
+ghost use Rattle.std.specs.Prelude.{◌≡◌, ℕ, ◌+◌, ◌<◌, ◌≤◌, false, true, length, drop, map, take, slice_index, All, IfErr, IfOk, OnErr, OnOk};
 ghost use Rattle.std.specs.Option.{option_map};
 ghost use Rattle.heap_layout.specs.Heap.{live, is_value, IsValue};
 ghost use Rattle.page_plan.specs.Sliding.{forward_value, live_words};
@@ -19,7 +19,7 @@ use crate::rounds::{MAX_WORKERS, mark_by_threads};
 use crate::sliding::slide_part;
 use crate::tables::{NotSurveyed, Tables};
 use heap_layout::{Edition, FROM_SPACE};
-use std::alloc::Global;
+use std::alloc::{AllocError, Global};
 use std::marker::Model;
 use std::thread::Threads;
 
@@ -116,7 +116,7 @@ impl<'w> Survey<'w> {
     {
         if workers > 1 && words.len() >= LONG {
             let workers = workers.min(MAX_WORKERS);
-            if let Some(survey) = Survey::of_rounds(
+            if let Ok(survey) = Survey::of_rounds(
                 alloc, rt, workers, WIDE, edition, words, roots,
             ) {
                 return Ok(survey);
@@ -125,8 +125,8 @@ impl<'w> Survey<'w> {
         Survey::of(alloc, edition, words, roots)
     }
 
-    // Surveys in so many threads where `wide` objects or more wait in the queue. None if a fault is there, or memory runs
-    // out.
+    // Surveys in so many threads where `wide` objects or more wait in the queue. Err if memory runs out, and where there
+    // is a fault too: one thread finds it.
     pub(crate) fn of_rounds<R: Threads + Sync>(
         alloc: Global,
         rt: &R,
@@ -135,32 +135,24 @@ impl<'w> Survey<'w> {
         edition: Edition,
         words: &'w [u64],
         roots: &[u64],
-    ) -> Option<Survey<'w>>
+    ) -> Result<Survey<'w>, AllocError>
         requires workers { 0 < workers }
-        ensures reached { IfSome result (λ survey. AreReached edition words.now roots.now survey.marks) }
-        ensures sound { IfSome result (λ survey. IsSound (with_roots survey roots.now)) }
-        ensures words { IfSome result (λ survey. survey.words ≡ words.now) }
-        ensures edition { IfSome result (λ survey. survey.edition ≡ edition) }
+        ensures reached { IfOk result (λ survey. AreReached edition words.now roots.now survey.marks) }
+        ensures sound { IfOk result (λ survey. IsSound (with_roots survey roots.now)) }
+        ensures words { IfOk result (λ survey. survey.words ≡ words.now) }
+        ensures edition { IfOk result (λ survey. survey.edition ≡ edition) }
     {
         if words.len() > edition.max_words() || roots.len() > edition.max_roots() {
-            return None;
+            return Err(AllocError);
         }
         let blocks = words.len().div_ceil(64);
-        let Ok(mut heads) = vec![in alloc; 0u64; blocks] else {
-            return None;
-        };
-        let Ok(mut bits) = vec![in alloc; 0u64; blocks] else {
-            return None;
-        };
-        if !mark_by_threads(
+        let mut heads = vec![in alloc; 0u64; blocks]?;
+        let mut bits = vec![in alloc; 0u64; blocks]?;
+        mark_by_threads(
             alloc, rt, workers, wide, edition, words, roots, &mut heads, &mut bits,
-        ) {
-            return None;
-        }
-        let Ok(counts) = offsets(alloc, &bits) else {
-            return None;
-        };
-        Some(Survey {
+        )?;
+        let counts = offsets(alloc, &bits)?;
+        Ok(Survey {
             edition,
             words,
             room: 0,

@@ -78,7 +78,7 @@ fn expect_same(
                 assert_eq!(rt; rounds.forward(*root), alone.forward(*root));
             }
         }
-        Err(_) => assert!(rt; rounds.is_none()),
+        Err(_) => assert!(rt; rounds.is_err()),
     }
 }
 
