@@ -92,15 +92,15 @@ impl<'w> Survey<'w> {
         })
     }
 
-    /// Like `of`, in at most so many threads, the caller among them, and 64 at most; the survey is the same, and a fault
-    /// is the one of `of`. With none or one the caller surveys alone, and so it does for fewer than 65,536 words. Threads
-    /// are started while 8,192 objects or more wait to be looked at: it gains where that is often so, as in trees,
-    /// graphs and tables, and the objects lie far apart. A list is followed as by one thread; then the objects are looked
-    /// at once more, in the order of their addresses, so that takes somewhat longer than `of`.
+    /// Like `of`, in at most so many threads, the caller among them, and 64 at most; the survey is the same, and a
+    /// fault is the one of `of`. With none or one the caller surveys alone, and so it does for fewer than 65,536 words.
+    /// Threads are started while 8,192 objects or more wait to be looked at: it gains where that is often so, as in
+    /// trees, graphs and tables, and the objects lie far apart. A list is followed as by one thread; then the objects
+    /// are looked at once more, in the order of their addresses, so that takes somewhat longer than `of`.
     ///
     /// While threads are at work each has a list of four bytes for each reference that leads to an object that was not
-    /// met when they began. Where there is no memory for that, and where a fault is met, the caller surveys anew, alone.
-    /// So no heap is refused that `of` surveys.
+    /// met when they began. Where there is no memory for that, and where a fault is met, the caller surveys anew,
+    /// alone. So no heap is refused that `of` surveys.
     pub fn of_by_threads<R: Threads + Sync>(
         alloc: Global,
         rt: &R,
