@@ -117,9 +117,7 @@ impl<'w> Survey<'w> {
     {
         if workers > 1 && words.len() >= LONG {
             let workers = workers.min(MAX_WORKERS);
-            if let Ok(survey) = Survey::of_rounds(
-                alloc, rt, workers, WIDE, edition, words, roots,
-            ) {
+            if let Ok(survey) = Survey::of_rounds(alloc, rt, workers, WIDE, edition, words, roots) {
                 return Ok(survey);
             }
         }
