@@ -29,3 +29,5 @@ pub mod SlidingDown
 pub mod InPlace
 pub mod Leading
 pub mod Lasting
+pub mod Asking
+pub mod Covered

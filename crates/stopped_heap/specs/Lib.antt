@@ -9,3 +9,5 @@ pub mod Parts
 pub mod Tables
 pub mod InPlace
 pub mod Rounds
+pub mod Kept
+pub mod LiveBits

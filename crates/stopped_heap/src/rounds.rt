@@ -4,14 +4,16 @@
 //! While few objects wait, the caller follows them alone.
 //!
 //! Nothing here shows that all was met. That, and that each object is sound, is asked afterwards of the objects that
-//! were met, in the order of their addresses.
+//! were met, in the order of their addresses, and in as many threads; and so are the bits of their words set.
 ghost use Rattle.std.specs.Prelude.{◌≡◌, ℕ, ◌*◌, ◌^◌, ◌<◌, ◌≤◌, true, false, All, length, IfOk, IfSome, OnOk};
 ghost use Rattle.heap_layout.specs.Bits.{bit};
 ghost use Rattle.stopped_heap.specs.Reached.{IsReachedFrom};
 ghost use Rattle.stopped_heap.specs.Rounds.{AreAllMarked, AreReaching, IsFoundPart};
 
 use crate::found::{follow, found_by, meet_led, meet_parts};
-use crate::marks::{check_kept, take_marks};
+use crate::kept::are_all_kept;
+use crate::live_bits::fill_by_threads;
+use crate::marks::check_kept;
 use heap_layout::Edition;
 use std::alloc::{AllocError, Global};
 use std::thread;
@@ -180,7 +182,7 @@ fn reach<R: Threads + Sync>(
 }
 
 /// Sets the bits of the objects that the roots reach in `heads`, and those of all their words in `bits`, in so many
-/// threads where `wide` objects or more wait. No bit may be set before. Err if memory runs out, and where there is a
+/// threads where `wide` objects or more wait. No bit of `heads` may be set before. Err if memory runs out, and where there is a
 /// fault too: one thread finds it.
 pub(crate) fn mark_by_threads<R: Threads + Sync>(
     alloc: Global,
@@ -199,7 +201,6 @@ pub(crate) fn mark_by_threads<R: Threads + Sync>(
     requires room { length words.now ≤ 64 * length heads.old }
     requires long { length bits.old ≡ length heads.old }
     requires no_heads { (i : ℕ) → bit heads.old i ≡ false }
-    requires no_bits { (i : ℕ) → bit bits.old i ≡ false }
     ensures marked { OnOk result (AreAllMarked edition words.now roots.now heads.new bits.new) }
     ensures same { length heads.new ≡ length heads.old }
     ensures long { length bits.new ≡ length bits.old }
@@ -210,8 +211,9 @@ pub(crate) fn mark_by_threads<R: Threads + Sync>(
     if let Err(_) = check_kept(edition, heads, roots) {
         return Err(AllocError);
     }
-    if let Err(_) = take_marks(edition, words, heads, bits) {
+    if !are_all_kept(alloc, rt, workers, edition, words, heads) {
         return Err(AllocError);
     }
+    fill_by_threads(rt, workers, edition, words, heads, bits);
     Ok(())
 }
