@@ -16,7 +16,7 @@ use Rattle.comp_history.specs.Setup.{Setup, pages}
 use Rattle.comp_history.specs.Locks.{Journals}
 use Rattle.comp_history.specs.Objects.{LeadsToObject}
 use Rattle.comp_cycles.specs.Cycles.{heap_after}
-use Rattle.comp_cycles.specs.Ends.{checked_faults, checked_heap, cycle_with, setup_in, AreMoved, IsEndOf, IsRefusedFor}
+use Rattle.comp_cycles.specs.Ends.{checked_faults, checked_heap, cycle_with, setup_in, AreLowered, AreMoved, IsEndOf, IsRefusedFor}
 use Rattle.comp_cycles.specs.Finishes.{edition_in, journals_of, pages_of, roots_of}
 use Rattle.comp_cycles.specs.NextHeap.{held, kind_in, lowered, next_faults, next_heap}
 use Rattle.comp_cycles.specs.declared.finished.Finished.{Finished}
@@ -126,6 +126,10 @@ refused_forwarded heap f roots fault e same refuses =
     refused_stayed u (journals_of f) (roots_of f) fault (omega (arith, forwarded_long u (roots_of f) e.finished.roots))
     (forwarded_lead u (journals_of f) (roots_of f) e.closed e.finished.roots)
     (subst (λ (list : List ℕ). IsRefusedWith u (journals_of f) list fault) same refuses)
+
+-- roots that are lowered by the edition of the finished heap are lowered by one that is the same
+pub lowered_by : (f : Finished) (edition : Edition) (roots lower : List ℕ) → edition ≡ edition_in f → AreLowered f roots lower → lower ≡ map (lowered edition) (map held roots)
+lowered_by f edition roots lower same are = are ∙ ap (λ (own : Edition). map (lowered own) (map held roots)) (sym same)
 
 -- what the call that marks finds, out of the words, the bits and the lowered roots that it makes
 module _ (heap : Heap) (f : Finished) (e : IsEndOf heap f) (roots : List ℕ) (edition : Edition) (words bits lower : List ℕ) (same : edition ≡ edition_in f)

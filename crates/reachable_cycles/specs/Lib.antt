@@ -1,2 +1,3 @@
 pub mod StableReach
 pub mod NextRoots
+pub mod NextMarks

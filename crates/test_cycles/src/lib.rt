@@ -29,6 +29,8 @@ mod reachable_marks;
 #[cfg(test)]
 mod refused_memory;
 #[cfg(test)]
+mod threads;
+#[cfg(test)]
 mod three_objects;
 #[cfg(test)]
 mod weak_words;
