@@ -31,3 +31,5 @@ pub mod Led
 pub mod Placing
 pub mod Tried
 pub mod Unchanged
+pub mod Leading
+pub mod Lasting

@@ -9,3 +9,4 @@ pub mod Parts
 pub mod Tables
 pub mod InPlace
 pub mod Places
+pub mod Rounds

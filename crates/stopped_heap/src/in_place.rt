@@ -10,48 +10,11 @@ ghost use Rattle.stopped_heap.specs.declared.fault.SurveyFault.TheVariants as su
 use crate::fault::{LentFault, SurveyFault};
 use crate::forwarding::settle_all;
 use crate::lending::fill;
-use crate::marking::mark;
-use crate::offsets::offsets;
+use crate::making::tables_of;
 use crate::sliding_down::slide_down;
 use crate::tables::Tables;
 use heap_layout::Edition;
 use std::alloc::Global;
-
-// What a survey keeps: the bits of the first words of the live objects, those of all their words, and the offsets of
-// the blocks of the latter.
-#[derive(Drop)]
-struct Found {
-    heads: Vec<u64>,
-    bits: Vec<u64>,
-    counts: Vec<u32>,
-}
-
-// The tables of what the roots reach, made for these words. Err with a fault that is there, or with `OutOfMemory`.
-fn tables_of(
-    alloc: Global,
-    edition: Edition,
-    words: &[u64],
-    roots: &[u64],
-) -> Result<Found, SurveyFault>
-    ensures reached { IfOk result (λ tables. AreReached edition words.now roots.now (marks_of tables.heads.items)) }
-    ensures sound { IfOk result (λ tables. IsSound (record { edition = edition; words = words.now; marks = marks_of tables.heads.items; roots = roots.now })) }
-    ensures tables { IfOk result (λ tables. AreTables edition words.now tables.heads.items tables.bits.items tables.counts.items) }
-    ensures fault { IfErr result (IsFaultOf edition words.now roots.now) }
-{
-    if words.len() > edition.max_words() || roots.len() > edition.max_roots() {
-        return Err(SurveyFault::TooLarge);
-    }
-    let blocks = words.len().div_ceil(64);
-    let mut heads = vec![in alloc; 0u64; blocks]?;
-    let mut bits = vec![in alloc; 0u64; blocks]?;
-    mark(alloc, edition, words, roots, &mut heads, &mut bits)?;
-    let counts = offsets(alloc, &bits)?;
-    Ok(Found {
-        heads,
-        bits,
-        counts,
-    })
-}
 
 // Slides what these tables have down to the beginning of the words, and makes the roots lead there. Answers the number of
 // live words.

@@ -1,7 +1,7 @@
 //! Marks what the roots reach.
 ghost use Rattle.std.specs.Prelude.{◌≡◌, ℕ, ◌+◌, ◌*◌, ◌^◌, ◌<◌, ◌≤◌, true, false, [], length, vec_capacity, IfErr, OnOk};
 ghost use Rattle.heap_layout.specs.Bits.{bit};
-ghost use Rattle.heap_layout.specs.Header.{refs_of, weak_of};
+ghost use Rattle.heap_layout.specs.Header.{refs_of, weak_of, size_of};
 ghost use Rattle.heap_layout.specs.Heap.{header_at, object_at, IsPlaced};
 ghost use Rattle.heap_layout.specs.Limits.{most_words, most_roots};
 ghost use Rattle.stopped_heap.specs.Reached.{IsReachedFrom, IsFaultOf, IsWordOf};
@@ -14,6 +14,12 @@ use crate::meeting::{Stop, check_leads, meet_all};
 use crate::shape::shape_of;
 use heap_layout::Edition;
 use std::alloc::Global;
+
+// How many places ahead in the queue an object is looked at before its turn; and how many words away it may lie and not
+// be looked at, since the processor has it soon enough.
+const AHEAD: usize = 8;
+
+const NEAR: usize = 512;
 
 /// The references of the object at index `i`, of which it has so many.
 #[inline(always)]
@@ -47,6 +53,16 @@ pub(crate) fn weak_words(
     let _ = edition;
     let first = i + 1 + refs;
     &words[first..first + weak]
+}
+
+// Whether the object at index `ahead` ends within the words, or lies near index `i`. It has its turn later, and by then its
+// header has come from memory, while other objects are followed.
+#[inline(always)]
+fn ends_within(edition: Edition, words: &[u64], i: usize, ahead: usize) -> bool
+    requires { ahead < length words.now }
+    ensures { result ≡ false → length words.now < ahead + size_of (header_at edition words.now ahead) }
+{
+    ahead.abs_diff(i) <= NEAR || shape_of(edition, words[ahead]).size <= words.len() - ahead
 }
 
 /// Meets each object that the roots reach: sets the bit of its first word in `heads`, and those of all its words in
@@ -158,6 +174,12 @@ fn mark_by(
     let mut next = 0;
     while next < queue.len() {
         let i = queue[next] as usize;
+        if next + AHEAD < queue.len() {
+            let ahead = queue[next + AHEAD] as usize;
+            if !ends_within(edition, words, i, ahead) {
+                return Err(SurveyFault::ObjectPastEnd(ahead as u64));
+            }
+        }
         let shape = shape_of(edition, words[i]);
         if shape.size > edition.max_object_words() {
             return Err(SurveyFault::ObjectTooLong(i as u64));

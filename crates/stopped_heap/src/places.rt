@@ -2,6 +2,7 @@
 ghost use Rattle.std.specs.Prelude.{◌≡◌, ℕ, ◌<◌, false, true, cond, drop, length, map, slice_index, take, All, IfErr, OnErr, OnOk};
 ghost use Rattle.heap_layout.specs.Heap.{is_value, IsValue};
 ghost use Rattle.stopped_heap.specs.Places.{led_by, words_now, IsAsFound, IsSlideFault};
+ghost use Rattle.stopped_heap.specs.declared.fault.SlideFault.TheVariants as slide;
 
 use crate::fault::SlideFault;
 use crate::forwarding::settle_all;
@@ -60,6 +61,8 @@ impl Places {
         ensures slid { OnOk result (part.new ≡ take (length part.old) (drop first (words_now self.now words.now))) }
         ensures as_found { OnOk result (IsAsFound self.now words.now first (length part.old)) }
         ensures fault { IfErr result (IsSlideFault self.now words.now first (length part.old)) }
+        ensures no_part { IfErr result (λ fault. fault ≡ slide.NoSuchPart → part.new ≡ part.old) }
+        ensures other_count { IfErr result (λ fault. fault ≡ slide.OtherCount → part.new ≡ part.old) }
     {
         let live = self.live_words();
         if first > live || part.len() as u64 > live - first {

@@ -13,7 +13,7 @@ ghost use Rattle.stopped_heap.specs.Tables.{IsLentFaultOf, IsMarksLentFaultOf};
 use crate::fault::{LentFault, MarksFault, MarksLentFault, SurveyFault};
 use crate::forwarding::{below, is_kept, settle_all};
 use crate::lending::{fill, fill_by_marks};
-use crate::marking::mark;
+use crate::making::{Found, tables_of};
 use crate::marks::{check_kept, take_marks};
 use crate::offsets::offsets;
 use crate::places::Places;
@@ -29,13 +29,13 @@ use std::marker::Model;
 /// room of its tables; `heap_of` is the heap of these with no roots.
 #[derive(Drop)]
 pub struct Survey<'w> {
-    edition: Edition,
-    words: &'w [u64],
-    room: usize,
-    heads: Vec<u64>,
-    bits: Vec<u64>,
-    counts: Vec<u32>,
-    queue: Vec<u32>,
+    pub(crate) edition: Edition,
+    pub(crate) words: &'w [u64],
+    pub(crate) room: usize,
+    pub(crate) heads: Vec<u64>,
+    pub(crate) bits: Vec<u64>,
+    pub(crate) counts: Vec<u32>,
+    pub(crate) queue: Vec<u32>,
 }
 
 impl<'w> Model for Survey<'w> {
@@ -67,14 +67,11 @@ impl<'w> Survey<'w> {
         ensures edition { IfOk result (λ survey. survey.edition ≡ edition) }
         ensures fault { IfErr result (IsFaultOf edition words.now roots.now) }
     {
-        if words.len() > edition.max_words() || roots.len() > edition.max_roots() {
-            return Err(SurveyFault::TooLarge);
-        }
-        let blocks = words.len().div_ceil(64);
-        let mut heads = vec![in alloc; 0u64; blocks]?;
-        let mut bits = vec![in alloc; 0u64; blocks]?;
-        mark(alloc, edition, words, roots, &mut heads, &mut bits)?;
-        let counts = offsets(alloc, &bits)?;
+        let Found {
+            heads,
+            bits,
+            counts,
+        } = tables_of(alloc, edition, words, roots)?;
         Ok(Survey {
             edition,
             words,
@@ -175,8 +172,8 @@ impl<'w> Survey<'w> {
         }
     }
 
-    /// Gives the tables back in which it was made, with the room that they had. Those of `of` and `of_marks` have room
-    /// for no words.
+    /// Gives the tables back in which it was made, with the room that they had. Those of `of`, `of_by_threads` and
+    /// `of_marks` have room for no words.
     pub fn into_tables(self) -> Tables
         ensures { result.room ≡ self.entry.room }
     {

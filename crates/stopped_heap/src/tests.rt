@@ -3,6 +3,7 @@ mod in_place;
 mod lent;
 mod places;
 mod refusals;
+mod rounds;
 mod surveys;
 
 use crate::{CollectFault, SurveyFault, collect, collect_by_threads};
@@ -44,41 +45,53 @@ fn three() -> [u64; 9] {
     ]
 }
 
-// Collects these words, and expects these words and roots. Where memory runs out nothing may have changed.
-fn expect(
-    rt: &(impl Abort + AllocGlobal),
-    edition: Edition,
-    words: &[u64],
-    roots: &mut [u64; 3],
+// What was left of a heap in a memory of 16 words and in the roots, beside what is wanted. Where memory ran out nothing
+// may have changed.
+fn judge(
+    rt: &impl Abort,
+    answer: Result<u64, CollectFault>,
+    to: &[u64; 16],
     left: &[u64],
+    roots: [u64; 3],
     left_roots: [u64; 3],
+    before: [u64; 3],
 ) {
-    let before = *roots;
-    let mut to = [7; 16];
-    match collect(rt.alloc(), edition, words, roots, &mut to) {
+    match answer {
         Ok(live) => {
             assert_eq!(rt; live, left.len() as u64);
             assert!(rt; left.len() < 16);
             assert_eq!(rt; &to[..left.len()], left);
-            assert_eq!(rt; to[15], 7);
-            assert_eq!(rt; *roots, left_roots);
+            assert_eq!(rt; (to[15], roots), (7, left_roots));
         }
         Err(fault) => {
             assert_eq!(rt; fault, CollectFault::Survey(SurveyFault::OutOfMemory));
-            assert_eq!(rt; to, [7; 16]);
-            assert_eq!(rt; *roots, before);
+            assert_eq!(rt; (*to, roots), ([7; 16], before));
         }
     }
 }
 
+// Collects these words, and expects these words and roots.
+fn expect(
+    rt: &(impl Abort + AllocGlobal),
+    edition: Edition,
+    words: &[u64],
+    roots: [u64; 3],
+    left: &[u64],
+    left_roots: [u64; 3],
+) {
+    let mut moved = roots;
+    let mut to = [7; 16];
+    let answer = collect(rt.alloc(), edition, words, &mut moved, &mut to);
+    judge(rt, answer, &to, left, moved, left_roots, roots);
+}
+
 #[test]
 fn what_is_reached_slides(rt: HostRuntime) {
-    let mut roots = [0, F + 8, F + 2];
     expect(
         &rt,
         Edition::Two,
         &five(),
-        &mut roots,
+        [0, F + 8, F + 2],
         &three(),
         [0, F + 6, F],
     );
@@ -86,12 +99,11 @@ fn what_is_reached_slides(rt: HostRuntime) {
 
 #[test]
 fn a_heap_that_was_collected_stays_when_it_is_collected_again(rt: HostRuntime) {
-    let mut roots = [0, F + 6, F];
     expect(
         &rt,
         Edition::Two,
         &three(),
-        &mut roots,
+        [0, F + 6, F],
         &three(),
         [0, F + 6, F],
     );
@@ -99,8 +111,8 @@ fn a_heap_that_was_collected_stays_when_it_is_collected_again(rt: HostRuntime) {
 
 #[test]
 fn without_roots_nothing_is_left(rt: HostRuntime) {
-    expect(&rt, Edition::Two, &five(), &mut [0; 3], &[], [0; 3]);
-    expect(&rt, Edition::One, &[], &mut [0; 3], &[], [0; 3]);
+    expect(&rt, Edition::Two, &five(), [0; 3], &[], [0; 3]);
+    expect(&rt, Edition::One, &[], [0; 3], &[], [0; 3]);
 }
 
 // Of words that are no row of objects only the object at 2 is reached. It has a reference, a weak word and a data word.
@@ -109,12 +121,12 @@ fn immediates_stay(rt: HostRuntime) {
     const I: u64 = 1 << 63;
     let header = Header::new_weak(1, 1, 1, 5).word();
     let words = [u64::MAX, 3, header, I + 1, I + F, I];
-    let mut roots = [I + 2, F + 2, I];
+    let roots = [I + 2, F + 2, I];
     expect(
         &rt,
         Edition::Four,
         &words,
-        &mut roots,
+        roots,
         &[header, I + 1, I + F, I],
         [I + 2, F, I],
     );

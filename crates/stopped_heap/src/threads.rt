@@ -1,4 +1,4 @@
-//! The whole collection, with the slide by several threads.
+//! The whole collection by several threads.
 ghost use Rattle.std.specs.Prelude.{◌≡◌, ◌+◌, ◌<◌, ◌≤◌, ℕ, List, length, slice_index, IfOk, IfErr, OnErr};
 ghost use Rattle.heap_layout.specs.Heap.{live};
 ghost use Rattle.page_plan.specs.Sliding.{live_words};
@@ -7,14 +7,12 @@ ghost use Rattle.stopped_heap.specs.Settled.{settled_words};
 ghost use Rattle.stopped_heap.specs.Surveys.{heap_of};
 
 use crate::fault::CollectFault;
+use crate::rounds::MAX_WORKERS;
 use crate::survey::Survey;
 use heap_layout::Edition;
 use std::alloc::Global;
 use std::thread;
 use std::thread::Threads;
-
-// The most threads that slide at once.
-const MAX_WORKERS: usize = 64;
 
 // Slides the part of to-space that begins at word `start`.
 fn slide_at(survey: &Survey<'_>, start: usize, part: &mut [u64])
@@ -35,8 +33,8 @@ fn slide_by_threads<R: Threads + Sync>(rt: &R, survey: &Survey<'_>, to: &mut [u6
     thread::for_each_chunk_mut(rt, to, size, &|start, part| slide_at(survey, start, part));
 }
 
-/// Like `collect`, with the slide in at most `workers` threads, and 64 at most: each fills a part of `to`. With 0 or 1
-/// the thread that calls slides alone. What is left is the same.
+/// Like `collect`, in at most `workers` threads, and 64 at most: they survey together, as `Survey::of_by_threads` says,
+/// and then each fills a part of `to`. With 0 or 1 the thread that calls does it alone. What is left is the same.
 pub fn collect_by_threads<R: Threads + Sync>(
     alloc: Global,
     rt: &R,
@@ -51,7 +49,7 @@ pub fn collect_by_threads<R: Threads + Sync>(
     ensures roots_stay { OnErr result (roots.new ≡ roots.old) }
     ensures to_stays { OnErr result (to.new ≡ to.old) }
 {
-    let survey = match Survey::of(alloc, edition, words, roots) {
+    let survey = match Survey::of_by_threads(alloc, rt, workers, edition, words, roots) {
         Ok(survey) => survey,
         Err(fault) => return Err(CollectFault::Survey(fault)),
     };

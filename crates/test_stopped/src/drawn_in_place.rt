@@ -8,7 +8,7 @@ use stopped_heap::{SurveyFault, collect_in_place};
 use test_support::{At, Random};
 
 // The number of heaps of each edition.
-const HEAPS: u64 = 50;
+const HEAPS: u64 = 100;
 
 // Fails unless the words begin with the slid words of the model, and are the heap's behind them.
 fn expect_within(rt: &impl Abort, case: &str, words: &[u64], slid: &[u64], before: &[u64]) {

@@ -5,6 +5,10 @@
 #[cfg(test)]
 mod drawing;
 #[cfg(test)]
+mod drawn_by_threads;
+#[cfg(test)]
+mod drawn_changes;
+#[cfg(test)]
 mod drawn_faults;
 #[cfg(test)]
 mod drawn_heaps;
@@ -16,6 +20,8 @@ mod drawn_lent;
 mod drawn_surveys;
 #[cfg(test)]
 mod expected;
+#[cfg(test)]
+mod often_by_threads;
 #[cfg(test)]
 mod plain_heap;
 #[cfg(test)]

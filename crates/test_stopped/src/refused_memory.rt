@@ -2,6 +2,7 @@
 use crate::expected::{expect_eq, expect_words};
 use crate::plain_heap::BEFORE;
 use heap_layout::{Edition, FROM_SPACE as F};
+use std::alloc::{AllocError, Global};
 use std::process::Abort;
 use stopped_heap::{CollectFault, MarksFault, Survey, SurveyFault, collect, collect_by_threads};
 use test_support::At;
@@ -104,4 +105,31 @@ fn surveys_by_marks_without_memory_are_refused(rt: HostRuntime) {
         }
     }
     expect_eq(&rt, At::new("surveyed", 0), surveyed, 1);
+}
+
+// The addresses of the first words.
+fn addresses(alloc: Global, count: u64) -> Result<Vec<u64>, AllocError> {
+    let mut addresses = Vec::new(alloc);
+    for at in 0..count {
+        addresses.push(F.saturating_add(at))?;
+    }
+    Ok(addresses)
+}
+
+// Each word is an object, and so many roots are followed by threads. Where one allocation is refused meanwhile, one
+// thread surveys alone.
+#[test]
+fn a_survey_by_threads_is_made_though_memory_was_refused_once(rt: HostRuntime) {
+    let Ok(words) = vec![in rt.alloc(); 0; 70_000] else {
+        return;
+    };
+    let Ok(roots) = addresses(rt.alloc(), 9_000) else {
+        return;
+    };
+    let survey = Survey::of_by_threads(rt.alloc(), &rt, 3, Edition::Three, &words, &roots);
+    let live = match survey {
+        Ok(survey) => survey.live_words(),
+        Err(_) => 0,
+    };
+    expect_eq(&rt, At::new("live", 0), live, 9_000);
 }

@@ -11,26 +11,36 @@ fn found(rt: &(impl Abort + AllocGlobal)) -> Places {
     survey.expect(rt, "a survey").release()
 }
 
+// Slides word for word, then all words, and then none.
+fn expect_parts(rt: &impl Abort, places: &Places) {
+    for first in 0..9 {
+        let mut part = [5];
+        assert_eq!(rt; places.try_slide(&five(), first, &mut part), Ok(()));
+        assert_eq!(rt; part[0], three()[first as usize]);
+    }
+    let mut part = [7; 9];
+    assert_eq!(rt; places.try_slide(&five(), 0, &mut part), Ok(()));
+    assert_eq!(rt; part, three());
+    assert_eq!(rt; places.try_slide(&five(), 9, &mut []), Ok(()));
+}
+
+// Forwards roots, of which one is led astray then, and weak words.
+fn expect_forwarded(rt: &impl Abort, places: &Places) {
+    let mut roots = [F + 10, 0, F + 8];
+    assert_eq!(rt; places.forward_roots(&mut roots), Ok(()));
+    assert_eq!(rt; roots, [F + 7, 0, F + 6]);
+    let mut weak = [F + 10, F + 9, 0];
+    assert_eq!(rt; places.forward_roots(&mut weak), Err(1));
+    places.forward_weak(&mut weak);
+    assert_eq!(rt; weak, [F + 7, 0, 0]);
+}
+
 #[test]
 fn words_that_have_not_changed(rt: HostRuntime) {
     let places = found(&rt);
     assert_eq!(&rt; places.live_words(), 9);
-    for first in 0..9 {
-        let mut part = [5];
-        assert_eq!(&rt; places.try_slide(&five(), first, &mut part), Ok(()));
-        assert_eq!(&rt; part[0], three()[first as usize]);
-    }
-    let mut part = [7; 9];
-    assert_eq!(&rt; places.try_slide(&five(), 0, &mut part), Ok(()));
-    assert_eq!(&rt; part, three());
-    assert_eq!(&rt; places.try_slide(&five(), 9, &mut []), Ok(()));
-    let mut roots = [F + 10, 0, F + 8];
-    assert_eq!(&rt; places.forward_roots(&mut roots), Ok(()));
-    assert_eq!(&rt; roots, [F + 7, 0, F + 6]);
-    let mut weak = [F + 10, F + 9, 0];
-    assert_eq!(&rt; places.forward_roots(&mut weak), Err(1));
-    places.forward_weak(&mut weak);
-    assert_eq!(&rt; weak, [F + 7, 0, 0]);
+    expect_parts(&rt, &places);
+    expect_forwarded(&rt, &places);
 }
 
 // Tries all nine words, with one word changed.
@@ -65,16 +75,21 @@ fn changed_words_are_told(rt: HostRuntime) {
     }
 }
 
-#[test]
-fn parts_that_are_not_there(rt: HostRuntime) {
-    let places = found(&rt);
+// A part that has no place among the live words, and one of other words than were surveyed.
+fn expect_no_part(rt: &impl Abort, places: &Places) {
     let mut part = [7; 2];
     for first in [8, 9, 10, u64::MAX] {
         let answer = places.try_slide(&five(), first, &mut part);
-        assert_eq!(&rt; answer, Err(SlideFault::NoSuchPart));
+        assert_eq!(rt; answer, Err(SlideFault::NoSuchPart));
     }
     let answer = places.try_slide(&five()[..11], 0, &mut part);
-    assert_eq!(&rt; answer, Err(SlideFault::OtherCount));
-    assert_eq!(&rt; part, [7; 2]);
+    assert_eq!(rt; answer, Err(SlideFault::OtherCount));
+    assert_eq!(rt; part, [7; 2]);
+}
+
+#[test]
+fn parts_that_are_not_there(rt: HostRuntime) {
+    let places = found(&rt);
+    expect_no_part(&rt, &places);
     assert_eq!(&rt; places.into_tables().room(), 0);
 }

@@ -1,4 +1,4 @@
-use Rattle.std.proofs.Common.{◌≡◌, ℕ, ◌<◌, List, false, fold, length, get_or, refl, sym, ap, subst, ◌∙◌, arith}
+use Rattle.std.proofs.Common.{◌≡◌, ℕ, ◌+◌, ◌<◌, List, false, fold, length, get_or, refl, sym, ap, subst, ◌∙◌, arith}
 use Rattle.std.proofs.lemmas.List.{get_or_default}
 use Rattle.heap_layout.specs.Bits.{bit}
 use Rattle.heap_layout.specs.Header.{size_of}
@@ -36,6 +36,16 @@ bounds-words-i c =
     let within : next < length queue = omega arith in
     let here : get_or queue next 0 ≡ c.index.result.now = get_or_default queue next 0 c.index.result.now within ∙ sym c.index.ensures in
     subst (λ (n : ℕ). n < length c.args.words.now) here (followed-inside c.args.edition c.args.words.now c.args.roots.now queue next next c.loop-next.invariant.followed within)
+
+pub ends_within-requires : goal.ends_within-requires
+ends_within-requires c =
+    let queue = c.loop-next.queue.items in
+    let next = c.loop-next.next in
+    let ahead = c.index-then-next-len.result.now in
+    let within : next + 8 < length queue = omega arith in
+    let here : get_or queue (next + 8) 0 ≡ ahead = get_or_default queue (next + 8) 0 ahead within ∙ sym c.index-then-next-len.ensures in
+    subst (λ (n : ℕ). n < length c.args.words.now) here
+    (followed-inside c.args.edition c.args.words.now c.args.roots.now queue next (next + 8) c.loop-next.invariant.followed within)
 
 pub overflow_sub-count : goal.overflow_sub-count
 overflow_sub-count c =

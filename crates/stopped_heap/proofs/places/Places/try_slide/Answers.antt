@@ -1,8 +1,10 @@
-use Rattle.std.proofs.Common.{◌≡◌, ◌+◌, ◌<◌, length, get_or, take, drop, sym, ap, subst, ◌∙◌, arith, length-take, length-drop}
+use Rattle.std.proofs.Common.{◌≡◌, ◌+◌, ◌<◌, ◌≤◌, length, get_or, take, drop, refl, sym, ap, subst, ◌∙◌, arith, length-take, length-drop}
 use Rattle.std.proofs.lemmas.Grind.{same_number_lists}
 use Rattle.std.proofs.lemmas.List.{length-map, get_or-take, get_or-drop}
 use Rattle.std.proofs.lemmas.Result.{on_ok_weaker, IfErr-weaker}
 use Rattle.stopped_heap.specs.Places.{found_in, word_now, words_now, Found, IsAsFound, IsSlideFault}
+use Rattle.stopped_heap.specs.declared.fault.SlideFault.{SlideFault}
+use Rattle.stopped_heap.specs.declared.fault.SlideFault.TheVariants as slide
 use Rattle.stopped_heap.proofs.Placing.{found-seen}
 use Rattle.stopped_heap.proofs.places.Places.try_slide.Goals as goal
 
@@ -42,3 +44,29 @@ returns-clause-fault c =
     found-seen inside.edition c.deref.result.now inside.heads.items c.deref-2.result.now inside.bits.items (length words) inside.count inside.room c.args.self.now
     (omega (arith, c.if-words-self.false)) c.deref.ensures.value c.deref-2.ensures.value c.self.view_is in
     IfErr-weaker c.try_slide_part.result _ _ (λ fault is. subst (λ (f : Found). IsSlideFault f words c.args.first (length c.args.part.now) fault) seen (is inside.room)) c.try_slide_part.ensures.fault
+
+pub returns-clause-no_part : goal.returns-clause-no_part
+returns-clause-no_part c =
+    let inside = c.self.inside in
+    let words = c.args.words.now in
+    let first = c.args.first in
+    let count = length c.args.part.now in
+    let found : Found = found_in inside.edition (length words) c.deref.result.now c.deref-2.result.now inside.room in
+    let seen : found ≡ c.args.self.now =
+    found-seen inside.edition c.deref.result.now inside.heads.items c.deref-2.result.now inside.bits.items (length words) inside.count inside.room c.args.self.now
+    (omega (arith, c.if-words-self.false)) c.deref.ensures.value c.deref-2.ensures.value c.self.view_is in
+    let there : first + count ≤ length found.indices =
+    omega (arith, ap (λ (f : Found). length f.indices) seen, c.live_words-live.ensures, c.if-first-live.false, c.if-part-live.false) in
+    IfErr-weaker c.try_slide_part.result _ (λ (fault : SlideFault). fault ≡ slide.NoSuchPart → c.try_slide_part.new.part ≡ c.args.part.now) (λ fault is same.
+    absurd (let less : length found.indices < first + count = subst (λ (f : SlideFault). IsSlideFault found words first count f) same (is inside.room) in
+    omega (arith, less, there))) c.try_slide_part.ensures.fault
+
+pub returns-clause-other_count : goal.returns-clause-other_count
+returns-clause-other_count c =
+    let inside = c.self.inside in
+    let words = c.args.words.now in
+    let first = c.args.first in
+    let count = length c.args.part.now in
+    let found : Found = found_in inside.edition (length words) c.deref.result.now c.deref-2.result.now inside.room in
+    IfErr-weaker c.try_slide_part.result _ (λ (fault : SlideFault). fault ≡ slide.OtherCount → c.try_slide_part.new.part ≡ c.args.part.now) (λ fault is same.
+    absurd (subst (λ (f : SlideFault). IsSlideFault found words first count f) same (is inside.room) refl)) c.try_slide_part.ensures.fault

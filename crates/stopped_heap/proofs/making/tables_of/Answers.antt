@@ -3,7 +3,7 @@ use Rattle.std.proofs.lemmas.Grind.{common_steps}
 use Rattle.std.proofs.lemmas.List.{take_at}
 use Rattle.mark_tables.specs.Bits.{AreOffsets}
 use Rattle.stopped_heap.proofs.Surveying.{IsMarkedBy, are-reached, sound-of, told-sound, told-indices}
-use Rattle.stopped_heap.proofs.in_place.tables_of.Goals as goal
+use Rattle.stopped_heap.proofs.making.tables_of.Goals as goal
 
 pub returns : goal.returns
 returns c =

@@ -1,0 +1,217 @@
+//! What the roots reach, found by several threads. It is the breadth-first search of the plain marker, done by rounds:
+//! while many objects wait in the queue, each thread takes a run of them and looks up what their references lead to.
+//! The threads only read, and each answers a list. The caller then meets what they found, one list after the other.
+//! While few objects wait, the caller follows them alone.
+//!
+//! Nothing here shows that all was met. That, and that each object is sound, is asked afterwards of the objects that
+//! were met, in the order of their addresses.
+ghost use Rattle.std.specs.Prelude.{◌≡◌, ℕ, ◌*◌, ◌^◌, ◌<◌, ◌≤◌, true, false, All, length, IfOk, IfSome, OnOk};
+ghost use Rattle.heap_layout.specs.Bits.{bit};
+ghost use Rattle.stopped_heap.specs.Reached.{IsReachedFrom};
+ghost use Rattle.stopped_heap.specs.Rounds.{AreAllMarked, AreReaching, IsFoundPart};
+
+use crate::found::{follow, found_by, meet_led, meet_parts};
+use crate::marks::{check_kept, take_marks};
+use heap_layout::Edition;
+use std::alloc::{AllocError, Global};
+use std::thread;
+use std::thread::Threads;
+
+/// The most threads that are at work at once.
+pub(crate) const MAX_WORKERS: usize = 64;
+
+// The most objects of a round, so that what the threads found is not long.
+const LONG: usize = 262_144;
+
+// What thread `k` finds: the objects to which the references of its run of `size` objects lead.
+fn found_at(
+    alloc: Global,
+    edition: Edition,
+    words: &[u64],
+    roots: &[u64],
+    heads: &[u64],
+    objects: &[u32],
+    size: usize,
+    k: usize,
+) -> Option<Vec<u32>>
+    requires few { length words.now ≤ 2 ^ 31 }
+    requires room { length words.now ≤ 64 * length heads.now }
+    requires objects { All (IsReachedFrom edition words.now roots.now) objects.now }
+    ensures { IsFoundPart edition words.now roots.now result }
+{
+    let first = k.saturating_mul(size).min(objects.len());
+    let end = first.saturating_add(size).min(objects.len());
+    found_by(alloc, edition, words, roots, heads, &objects[first..end])
+}
+
+// What the references of these objects lead to, found by so many threads, each of which has a run of them.
+fn found_by_threads<R: Threads + Sync>(
+    alloc: Global,
+    rt: &R,
+    workers: usize,
+    edition: Edition,
+    words: &[u64],
+    roots: &[u64],
+    heads: &[u64],
+    objects: &[u32],
+) -> Result<Vec<Option<Vec<u32>>>, AllocError>
+    requires workers { 0 < workers }
+    requires few { length words.now ≤ 2 ^ 31 }
+    requires room { length words.now ≤ 64 * length heads.now }
+    requires objects { All (IsReachedFrom edition words.now roots.now) objects.now }
+    ensures { IfOk result (λ parts. All (IsFoundPart edition words.now roots.now) parts.items) }
+{
+    let size = objects.len().div_ceil(workers);
+    let part = move |k: usize| -> Option<Vec<u32>>
+        requires { (length words.now ≤ 2 ^ 31) × (length words.now ≤ 64 * length heads.now) × All (IsReachedFrom edition words.now roots.now) objects.now }
+        ensures { IsFoundPart edition words.entry.now roots.entry.now result }
+    { found_at(alloc, edition, words, roots, heads, objects, size, k) };
+    thread::map_indices(rt, alloc, workers, &part)
+}
+
+// Follows the references of the objects from place `next` of the queue to place `end`, in so many threads. The answer
+// is false if a thread gave up, or memory runs out.
+fn follow_round<R: Threads + Sync>(
+    alloc: Global,
+    rt: &R,
+    workers: usize,
+    edition: Edition,
+    words: &[u64],
+    roots: &[u64],
+    heads: &mut [u64],
+    queue: &mut Vec<u32>,
+    next: usize,
+    end: usize,
+) -> bool
+    requires workers { 0 < workers }
+    requires few { length words.now ≤ 2 ^ 31 }
+    requires room { length words.now ≤ 64 * length heads.old }
+    requires order { next ≤ end }
+    requires within { end ≤ length queue.old.items }
+    requires met { AreReaching edition words.now roots.now queue.old.items heads.old }
+    ensures met { result ≡ true → AreReaching edition words.now roots.now queue.new.items heads.new }
+    ensures length { length heads.new ≡ length heads.old }
+{
+    let objects = &queue[next..end];
+    let Ok(parts) = found_by_threads(alloc, rt, workers, edition, words, roots, heads, objects)
+    else {
+        return false;
+    };
+    meet_parts(edition, words, roots, heads, queue, &parts)
+}
+
+// Follows the references of the object at place `next` of the queue, or of many from there on, in so many threads, if
+// `wide` of them or more wait. The answer is the place behind them. None if a thread gave up, or an object is too long
+// for the edition or ends past the words, or memory runs out.
+fn follow_some<R: Threads + Sync>(
+    alloc: Global,
+    rt: &R,
+    workers: usize,
+    wide: usize,
+    edition: Edition,
+    words: &[u64],
+    roots: &[u64],
+    heads: &mut [u64],
+    queue: &mut Vec<u32>,
+    next: usize,
+) -> Option<usize>
+    requires workers { 0 < workers }
+    requires few { length words.now ≤ 2 ^ 31 }
+    requires room { length words.now ≤ 64 * length heads.old }
+    requires within { next < length queue.old.items }
+    requires met { AreReaching edition words.now roots.now queue.old.items heads.old }
+    ensures met { IfSome result (λ _. AreReaching edition words.now roots.now queue.new.items heads.new) }
+    ensures length { length heads.new ≡ length heads.old }
+{
+    let waiting = (queue.len() - next).min(LONG);
+    if waiting < wide {
+        let i = queue[next] as usize;
+        if !follow(edition, words, roots, heads, queue, i) {
+            return None;
+        }
+        return Some(next + 1);
+    }
+    let end = next + waiting;
+    if !follow_round(
+        alloc, rt, workers, edition, words, roots, heads, queue, next, end,
+    ) {
+        return None;
+    }
+    Some(end)
+}
+
+// Sets the bits of objects that the roots reach, and no others, in so many threads where `wide` objects or more wait.
+// No bit may be set before. The answer is false if memory runs out, or an object is too long for the edition or ends
+// past the words.
+fn reach<R: Threads + Sync>(
+    alloc: Global,
+    rt: &R,
+    workers: usize,
+    wide: usize,
+    edition: Edition,
+    words: &[u64],
+    roots: &[u64],
+    heads: &mut [u64],
+) -> bool
+    requires workers { 0 < workers }
+    requires few { length words.now ≤ 2 ^ 31 }
+    requires room { length words.now ≤ 64 * length heads.old }
+    requires none { (i : ℕ) → bit heads.old i ≡ false }
+    ensures reached { result ≡ true → (i : ℕ) → bit heads.new i ≡ true → IsReachedFrom edition words.now roots.now i }
+    ensures length { length heads.new ≡ length heads.old }
+{
+    let mut queue = Vec::new(alloc);
+    if meet_led(edition, words, roots, heads, &mut queue, roots).is_err() {
+        return false;
+    }
+    let mut next = 0;
+    // Each turn follows one object or more, and no more are met than there are words.
+    let mut turns = words.len();
+    while turns > 0 && next < queue.len() {
+        let Some(end) = follow_some(
+            alloc, rt, workers, wide, edition, words, roots, heads, &mut queue, next,
+        ) else {
+            return false;
+        };
+        next = end;
+        turns -= 1;
+    }
+    true
+}
+
+/// Sets the bits of the objects that the roots reach in `heads`, and those of all their words in `bits`, in so many
+/// threads where `wide` objects or more wait. No bit may be set before. Err if memory runs out, and where there is a
+/// fault too: one thread finds it.
+pub(crate) fn mark_by_threads<R: Threads + Sync>(
+    alloc: Global,
+    rt: &R,
+    workers: usize,
+    wide: usize,
+    edition: Edition,
+    words: &[u64],
+    roots: &[u64],
+    heads: &mut [u64],
+    bits: &mut [u64],
+) -> Result<(), AllocError>
+    requires workers { 0 < workers }
+    requires few { length words.now ≤ 2 ^ 31 }
+    requires few_bits { length heads.old ≤ 2 ^ 25 }
+    requires room { length words.now ≤ 64 * length heads.old }
+    requires long { length bits.old ≡ length heads.old }
+    requires no_heads { (i : ℕ) → bit heads.old i ≡ false }
+    requires no_bits { (i : ℕ) → bit bits.old i ≡ false }
+    ensures marked { OnOk result (AreAllMarked edition words.now roots.now heads.new bits.new) }
+    ensures same { length heads.new ≡ length heads.old }
+    ensures long { length bits.new ≡ length bits.old }
+{
+    if !reach(alloc, rt, workers, wide, edition, words, roots, heads) {
+        return Err(AllocError);
+    }
+    if let Err(_) = check_kept(edition, heads, roots) {
+        return Err(AllocError);
+    }
+    if let Err(_) = take_marks(edition, words, heads, bits) {
+        return Err(AllocError);
+    }
+    Ok(())
+}

@@ -1,0 +1,90 @@
+//! What the roots reach, and where it slides, found by several threads.
+ghost use Rattle.std.specs.Prelude.{◌≡◌, ◌<◌, IfErr, IfOk};
+ghost use Rattle.stopped_heap.specs.Reached.{AreReached, IsFaultOf, IsSound};
+ghost use Rattle.stopped_heap.specs.Surveys.{with_roots};
+
+use crate::fault::SurveyFault;
+use crate::offsets::offsets;
+use crate::rounds::{MAX_WORKERS, mark_by_threads};
+use crate::survey::Survey;
+use heap_layout::Edition;
+use std::alloc::{AllocError, Global};
+use std::thread::Threads;
+
+// With fewer words than these one thread surveys alone.
+const LONG: usize = 65_536;
+
+// With fewer objects than these in the queue one thread follows them alone: starting threads costs more.
+const WIDE: usize = 8_192;
+
+impl<'w> Survey<'w> {
+    /// Like `of`, in at most so many threads, the caller among them, and 64 at most; the survey is the same, and a
+    /// fault is the one of `of`. With none or one the caller surveys alone, and so it does for fewer than 65,536 words.
+    /// Threads are started while 8,192 objects or more wait to be looked at: it gains where that is often so, as in
+    /// trees, graphs and tables, and the objects lie far apart. A list is followed as by one thread; then the objects
+    /// are looked at once more, in the order of their addresses, so that takes somewhat longer than `of`.
+    ///
+    /// While threads are at work each has a list of four bytes for each reference that leads to an object that was not
+    /// met when they began. Where there is no memory for that, and where a fault is met, the caller surveys anew,
+    /// alone. So no heap is refused that `of` surveys.
+    pub fn of_by_threads<R: Threads + Sync>(
+        alloc: Global,
+        rt: &R,
+        workers: usize,
+        edition: Edition,
+        words: &'w [u64],
+        roots: &[u64],
+    ) -> Result<Survey<'w>, SurveyFault>
+        ensures reached { IfOk result (λ survey. AreReached edition words.now roots.now survey.marks) }
+        ensures sound { IfOk result (λ survey. IsSound (with_roots survey roots.now)) }
+        ensures words { IfOk result (λ survey. survey.words ≡ words.now) }
+        ensures edition { IfOk result (λ survey. survey.edition ≡ edition) }
+        ensures fault { IfErr result (IsFaultOf edition words.now roots.now) }
+    {
+        if workers > 1 && words.len() >= LONG {
+            let workers = workers.min(MAX_WORKERS);
+            if let Ok(survey) = Survey::of_rounds(alloc, rt, workers, WIDE, edition, words, roots) {
+                return Ok(survey);
+            }
+        }
+        Survey::of(alloc, edition, words, roots)
+    }
+
+    // Surveys in so many threads where `wide` objects or more wait in the queue. Err if memory runs out, and where
+    // there is a fault too: one thread finds it.
+    pub(crate) fn of_rounds<R: Threads + Sync>(
+        alloc: Global,
+        rt: &R,
+        workers: usize,
+        wide: usize,
+        edition: Edition,
+        words: &'w [u64],
+        roots: &[u64],
+    ) -> Result<Survey<'w>, AllocError>
+        requires workers { 0 < workers }
+        ensures reached { IfOk result (λ survey. AreReached edition words.now roots.now survey.marks) }
+        ensures sound { IfOk result (λ survey. IsSound (with_roots survey roots.now)) }
+        ensures words { IfOk result (λ survey. survey.words ≡ words.now) }
+        ensures edition { IfOk result (λ survey. survey.edition ≡ edition) }
+    {
+        if words.len() > edition.max_words() || roots.len() > edition.max_roots() {
+            return Err(AllocError);
+        }
+        let blocks = words.len().div_ceil(64);
+        let mut heads = vec![in alloc; 0u64; blocks]?;
+        let mut bits = vec![in alloc; 0u64; blocks]?;
+        mark_by_threads(
+            alloc, rt, workers, wide, edition, words, roots, &mut heads, &mut bits,
+        )?;
+        let counts = offsets(alloc, &bits)?;
+        Ok(Survey {
+            edition,
+            words,
+            room: 0,
+            heads,
+            bits,
+            counts,
+            queue: Vec::new(alloc),
+        })
+    }
+}
