@@ -1,0 +1,4 @@
+pub mod Steps
+pub mod Emptied
+pub mod Leading
+pub mod Marking

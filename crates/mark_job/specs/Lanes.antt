@@ -1,0 +1,37 @@
+-- The lanes as a table of atomic words, a lane for each: the word is 0 while the lane is at home, and 1 while a helper
+-- has it.
+use Rattle.std.specs.Prelude.{◌≡◌, ℕ, ◌<◌, List, [], ◌∷◌, length, slice_index}
+use mathlib.Core.Option.{some}
+use lib.ListN.{get_elem?}
+use Rattle.atomic_table.specs.Seated.{TableId}
+use Rattle.atomic_table.specs.Table.{Me, State, Step}
+use Rattle.mark_job.specs.Asked.{Asked, AreMetIn}
+use Rattle.mark_job.specs.declared.view.View.{View}
+
+-- a lane is at home there
+abbrev pub IsHome : State (List ℕ) View → ℕ → Type 0
+IsHome s k = (lane : List ℕ) × (get_elem? s.homes k ≡ some (some lane))
+
+-- The rule: the lanes that are at home are lanes of this heap, and those whose word is 0 are at home.
+pub record Holds (asked : Asked) (s : State (List ℕ) View) : Type 0 where
+  pub many : length s.words ≡ length s.homes
+  pub reached : (k : ℕ) (lane : List ℕ) → get_elem? s.homes k ≡ some (some lane) → AreMetIn asked lane
+  pub home : (k : ℕ) → k < length s.homes → slice_index s.words k ≡ 0 → IsHome s k
+
+-- what every helper knows
+abbrev pub first_view : Asked → View
+first_view asked = record { about = asked }
+
+-- a helper that finds 0 takes the lane
+abbrev pub takes : Step (List ℕ) → Me (List ℕ) View → ℕ → Me (List ℕ) View → Type 0
+takes step before found after = found ≡ 0 → (lane : List ℕ) × (after.1 ≡ (step.word, lane) ∷ []) × AreMetIn before.0.about lane
+
+-- nothing is said of a helper that puts its lane back
+abbrev pub puts : Step (List ℕ) → Me (List ℕ) View → ℕ → Me (List ℕ) View → Type 0
+puts step before found after = Unit {0}
+
+-- a seat of the table of this name has taken lane k
+pub record IsOut (table own : TableId) (me : Me (List ℕ) View) (k : ℕ) : Type 0 where
+  pub same : own ≡ table
+  pub lane : List ℕ
+  pub out : me.1 ≡ (k, lane) ∷ []

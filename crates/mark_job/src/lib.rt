@@ -1,0 +1,37 @@
+//! A job that marks a heap at rest, by threads that the caller owns. The job starts no thread, and no call of it waits
+//! for another thread. One thread begins the job. Then any threads call `Job::help` again and again, each as often as
+//! it likes, until the answer is that all is done, and one thread finishes the job and takes out what was found.
+//!
+//! What is taken out is what one thread alone finds, whoever helped, in whatever order, and whoever stopped in the
+//! middle. The job owns the words and the roots while it runs, so that nobody changes them. Whoever finishes it owns
+//! it: a reference that a helper still has rules that out, and `Arc::try_unwrap` tells of it at run time.
+//!
+//! The work lies in 64 lanes. A lane is a row of objects that the roots reach. A helper takes a lane, looks up to which
+//! objects the references of some of its objects lead, puts those behind, and gives the lane back; if many wait there,
+//! it moves some into an empty lane. A lane is taken by one atomic step, which a helper tries once and does not repeat.
+//! One bit a word says which objects are in a lane, so that each is put into one lane once.
+//!
+//! The rule that holds between any two atomic steps says that the roots reach the objects in the lanes. That these are
+//! all is asked of the words when the job is finished: the roots, and the references of the objects that were met, must
+//! lead to objects that were met. If not, the thread that finishes the job surveys the heap alone.
+#![tactic(auto)]
+
+mod desk;
+mod ended;
+mod help;
+mod image;
+mod job;
+mod lane;
+mod lanes;
+mod laws;
+mod looking;
+mod rule;
+mod surveying;
+#[cfg(test)]
+mod tests;
+mod view;
+
+pub use ended::{Ended, NotBegun};
+pub use help::Help;
+pub use job::Job;
+pub use laws::found_is_one;
