@@ -10,6 +10,9 @@ const FROM: u64 = 1 << 32;
 const MOST_WORDS: usize = 1 << 31;
 const MOST_ROOTS: usize = 1 << 20;
 const WORKERS: usize = 4;
+// How many places ahead in the queue an object is looked at, unless it lies within so many words.
+const AHEAD: usize = 8;
+const NEAR: usize = 512;
 
 enum Fault {
     TooLarge,
@@ -100,13 +103,24 @@ fn meet(heads: &mut [u64], queue: &mut Vec<u32>, words: &[u64], count: usize) ->
     Ok(())
 }
 
-/// Sets the bits of what the roots reach: breadth first, with the queue beside the heap.
-fn mark(words: &[u64], roots: &[u64], heads: &mut [u64], bits: &mut [u64]) -> Result<(), Fault> {
-    let mut queue = Vec::new();
-    meet(heads, &mut queue, roots, words.len()).map_err(Fault::BadRoot)?;
+/// Sets the bits of what the roots reach: breadth first, with the queue, which is empty, beside the heap.
+fn mark(
+    words: &[u64],
+    roots: &[u64],
+    heads: &mut [u64],
+    bits: &mut [u64],
+    queue: &mut Vec<u32>,
+) -> Result<(), Fault> {
+    meet(heads, queue, roots, words.len()).map_err(Fault::BadRoot)?;
     let mut next = 0;
     while next < queue.len() {
         let i = queue[next] as usize;
+        if let Some(&ahead) = queue.get(next + AHEAD) {
+            let ahead = ahead as usize;
+            if ahead.abs_diff(i) > NEAR && Shape::of(words[ahead]).size > words.len() - ahead {
+                return Err(Fault::ObjectPastEnd(ahead));
+            }
+        }
         let shape = Shape::of(words[i]);
         if shape.size > MOST_WORDS {
             return Err(Fault::ObjectTooLong(i));
@@ -118,7 +132,7 @@ fn mark(words: &[u64], roots: &[u64], heads: &mut [u64], bits: &mut [u64]) -> Re
             return Err(Fault::Overlap(i));
         }
         let (references, rest) = words[i + 1..i + shape.size].split_at(shape.refs);
-        meet(heads, &mut queue, references, words.len()).map_err(|k| Fault::BadReference(i + 1 + k))?;
+        meet(heads, queue, references, words.len()).map_err(|k| Fault::BadReference(i + 1 + k))?;
         let stray = rest[..shape.weak].iter().position(|&word| target(word, words.len()).is_err());
         if let Some(k) = stray {
             return Err(Fault::BadWeak(i + 1 + shape.refs + k));
@@ -129,16 +143,40 @@ fn mark(words: &[u64], roots: &[u64], heads: &mut [u64], bits: &mut [u64]) -> Re
 }
 
 /// How many bits are set before each block, and last of all.
-fn offsets(bits: &[u64]) -> Vec<u32> {
+fn put_offsets(bits: &[u64], counts: &mut Vec<u32>) {
     let mut total = 0;
-    let mut counts = Vec::with_capacity(bits.len() + 1);
+    counts.clear();
     counts.extend(bits.iter().map(|block| {
         let before = total;
         total += block.count_ones();
         before
     }));
     counts.push(total);
-    counts
+}
+
+/// The tables of a survey, which one collection after the other uses.
+#[derive(Default)]
+struct Tables { heads: Vec<u64>, bits: Vec<u64>, counts: Vec<u32>, queue: Vec<u32> }
+
+impl Tables {
+    fn reserve(words: usize) -> Tables {
+        let blocks = words.div_ceil(64);
+        let (heads, bits) = (Vec::with_capacity(blocks), Vec::with_capacity(blocks));
+        Tables { heads, bits, counts: Vec::with_capacity(blocks + 1), queue: Vec::with_capacity(words) }
+    }
+
+    /// Finds what the roots reach.
+    fn fill(&mut self, words: &[u64], roots: &[u64]) -> Result<(), Fault> {
+        let blocks = words.len().div_ceil(64);
+        for bits in [&mut self.heads, &mut self.bits] {
+            bits.clear();
+            bits.resize(blocks, 0);
+        }
+        self.queue.clear();
+        mark(words, roots, &mut self.heads, &mut self.bits, &mut self.queue)?;
+        put_offsets(&self.bits, &mut self.counts);
+        Ok(())
+    }
 }
 
 /// What is live: a bit for the first word of each object, a bit for each word, and how many words are live below each
@@ -152,8 +190,9 @@ impl<'w> Survey<'w> {
         }
         let blocks = words.len().div_ceil(64);
         let (mut heads, mut bits) = (vec![0; blocks], vec![0; blocks]);
-        mark(words, roots, &mut heads, &mut bits)?;
-        let counts = offsets(&bits);
+        mark(words, roots, &mut heads, &mut bits, &mut Vec::new())?;
+        let mut counts = Vec::with_capacity(blocks + 1);
+        put_offsets(&bits, &mut counts);
         Ok(Survey { words, heads, bits, counts })
     }
 
@@ -258,6 +297,54 @@ fn collect(words: &[u64], roots: &mut [u64], to: &mut [u64]) -> Result<usize, Fa
     Ok(live)
 }
 
+/// The same by tables that were made before.
+fn collect_lent(tables: &mut Tables, words: &[u64], roots: &mut [u64], to: &mut [u64]) -> Result<usize, Fault> {
+    if words.len() > MOST_WORDS || roots.len() > MOST_ROOTS {
+        return Err(Fault::TooLarge);
+    }
+    tables.fill(words, roots)?;
+    let Tables { heads, bits, counts, queue } = std::mem::take(tables);
+    let survey = Survey { words, heads, bits, counts };
+    let live = survey.live_words();
+    let part = to.get_mut(..live);
+    let answer = if let Some(part) = part {
+        survey.slide(0, part);
+        roots.iter_mut().for_each(|root| *root = survey.settled_weak(*root));
+        Ok(live)
+    } else {
+        Err(Fault::NoRoom(live))
+    };
+    *tables = Tables { heads: survey.heads, bits: survey.bits, counts: survey.counts, queue };
+    answer
+}
+
+/// The same within the words: no object moves up.
+fn collect_in_place(words: &mut [u64], roots: &mut [u64]) -> Result<usize, Fault> {
+    let Survey { heads, bits, counts, .. } = Survey::of(words, roots)?;
+    let survey = Survey { words: &[], heads, bits, counts };
+    let live = survey.live_words();
+    let (mut next, mut place) = (0, 0);
+    while place < live {
+        let start = survey.next_head(next);
+        let shape = Shape::of(words[start]);
+        let (weak, data) = (1 + shape.refs, 1 + shape.refs + shape.weak);
+        words[place] = words[start];
+        for k in 1..weak {
+            words[place + k] = survey.settled(words[start + k]);
+        }
+        for k in weak..data {
+            words[place + k] = survey.settled_weak(words[start + k]);
+        }
+        if place < start {
+            words.copy_within(start + data..start + shape.size, place + data);
+        }
+        place += shape.size;
+        next = start + shape.size;
+    }
+    roots.iter_mut().for_each(|root| *root = survey.settled_weak(*root));
+    Ok(live)
+}
+
 /// The same, with the slide in threads, each of a part of `to`.
 fn collect_by_threads(words: &[u64], roots: &mut [u64], to: &mut [u64]) -> Result<usize, Fault> {
     let survey = Survey::of(words, roots)?;
@@ -273,17 +360,17 @@ fn collect_by_threads(words: &[u64], roots: &mut [u64], to: &mut [u64]) -> Resul
     Ok(live)
 }
 
-/// The words of the heap, the references and data words of each object, how many objects of a hundred are live, and the
-/// rounds.
+/// The words of the heap, the references and data words of each object, how many objects of a hundred are live, whether
+/// these lie in the order in which the root reaches them, and the rounds.
 #[derive(Clone, Copy)]
-struct Asked { words: usize, refs: u64, data: u64, live: u64, rounds: usize }
+struct Asked { words: usize, refs: u64, data: u64, live: u64, in_order: bool, rounds: usize }
 
 impl Asked {
     fn by(words: &[String]) -> Option<Asked> {
         let number = |at: usize| words.get(at)?.parse::<u32>().ok();
         let fields = |at: usize| Some(u64::from(words.get(at)?.parse::<u16>().ok()?));
-        let (count, live, rounds) = (number(0)? as usize, number(3)?.into(), number(4)? as usize);
-        let asked = Asked { words: count, refs: fields(1)?, data: fields(2)?, live, rounds };
+        let (count, live, rounds) = (number(0)? as usize, number(3)?.into(), number(5)? as usize);
+        let asked = Asked { words: count, refs: fields(1)?, data: fields(2)?, live, in_order: number(4)? != 0, rounds };
         (count <= MOST_WORDS).then_some(asked)
     }
 }
@@ -301,7 +388,7 @@ fn made(asked: Asked) -> (Vec<u64>, u64) {
     let objects = asked.words as u64 / size;
     let mut order: Vec<u64> = (0..objects).filter(|&k| drawn(k) % 100 < asked.live).collect();
     let count = order.len() as u64;
-    for j in 0..count {
+    for j in 0..if asked.in_order { 0 } else { count } {
         order.swap(j as usize, (j + (drawn(j) >> 33) % (count - j)) as usize);
     }
     let mut words = Vec::with_capacity(asked.words);
@@ -330,6 +417,7 @@ fn sum(begun: u64, words: &[u64]) -> u64 {
 fn run(asked: Asked, mode: &str, words: &[u64], root: u64, to: &mut [u64]) -> Result<(usize, u64), Fault> {
     let mut left = (0, root);
     let survey = if mode == "3" { Some(Survey::of(words, &[root])?) } else { None };
+    let mut tables = if mode == "6" { Tables::reserve(words.len()) } else { Tables::default() };
     for _ in 0..asked.rounds {
         let mut roots = [root];
         match (mode, &survey) {
@@ -341,6 +429,12 @@ fn run(asked: Asked, mode: &str, words: &[u64], root: u64, to: &mut [u64]) -> Re
                 left = (live, survey.settled_weak(root));
             }
             ("4", _) => left = (collect(words, &mut roots, to)?, roots[0]),
+            ("5", _) => {
+                to.copy_from_slice(words);
+                left = (collect_in_place(to, &mut roots)?, roots[0]);
+            }
+            ("6", _) => left = (collect_lent(&mut tables, words, &mut roots, to)?, roots[0]),
+            ("8", _) => to.copy_from_slice(words),
             ("7", _) => left = (collect_by_threads(words, &mut roots, to)?, roots[0]),
             _ => (),
         }
@@ -351,10 +445,10 @@ fn run(asked: Asked, mode: &str, words: &[u64], root: u64, to: &mut [u64]) -> Re
 fn main() -> ExitCode {
     let words: Vec<String> = std::env::args().skip(1).collect();
     let Some(asked) = Asked::by(&words) else {
-        eprintln!("timed_collection_peer: wants WORDS REFS DATA LIVE ROUNDS MODE...");
+        eprintln!("timed_collection_peer: wants WORDS REFS DATA LIVE ORDER ROUNDS MODE...");
         return ExitCode::from(2);
     };
-    for mode in &words[5..] {
+    for mode in &words[6..] {
         let (words, root) = made(asked);
         let mut to = vec![1; asked.words];
         let Ok((live, root)) = run(asked, mode, &words, root, &mut to) else { return ExitCode::from(1) };

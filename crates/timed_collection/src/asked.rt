@@ -14,8 +14,14 @@ pub enum Mode {
     Slide,
     /// A whole collection.
     Collect,
+    /// A copy of the heap, and a whole collection within its words.
+    CollectInPlace,
+    /// A whole collection by tables that are made once before the rounds.
+    CollectLent,
     /// A whole collection by threads.
     CollectByThreads,
+    /// A copy of the heap alone.
+    Copy,
 }
 
 /// What the words ask of each mode.
@@ -29,6 +35,8 @@ pub struct Asked {
     pub data_words: u16,
     /// How many objects of a hundred are reached.
     pub live: u32,
+    /// Whether they lie in the order in which the root reaches them.
+    pub in_order: bool,
     /// The number of rounds.
     pub rounds: u32,
 }
@@ -55,14 +63,15 @@ fn fields(words: &[String], at: usize) -> Option<u16> {
     words.get(at)?.parse::<u16>().ok()
 }
 
-/// What the first five words ask; `None` if they are not five numbers, or if the heap would have too many words.
+/// What the first six words ask; `None` if they are not six numbers, or if the heap would have too many words.
 pub fn asked_by(words: &[String]) -> Option<Asked> {
     let asked = Asked {
         words: number(words, 0)?,
         refs: fields(words, 1)?,
         data_words: fields(words, 2)?,
         live: number(words, 3)?,
-        rounds: number(words, 4)?,
+        in_order: number(words, 4)? != 0,
+        rounds: number(words, 5)?,
     };
     if asked.words as usize > MAX_LARGE_WORDS {
         return None;
@@ -78,7 +87,10 @@ pub fn mode_of(name: &str) -> Option<Mode> {
         "2" => Some(Mode::Mark),
         "3" => Some(Mode::Slide),
         "4" => Some(Mode::Collect),
+        "5" => Some(Mode::CollectInPlace),
+        "6" => Some(Mode::CollectLent),
         "7" => Some(Mode::CollectByThreads),
+        "8" => Some(Mode::Copy),
         _ => None,
     }
 }

@@ -117,11 +117,13 @@ fn link(words: &mut [u64], asked: Asked, order: &[u32], j: usize, k: u32) {
     }
 }
 
-/// The heap that is asked for. The root leads to a binary tree of the objects that are reached, which lie in it in an
-/// order that looks as if it were drawn.
+/// The heap that is asked for. The root leads to a binary tree of the objects that are reached, which lie there level by
+/// level, or in an order that looks as if it were drawn.
 pub fn made(alloc: Global, asked: Asked) -> Result<Heap, AllocError> {
     let mut order = reached(alloc, asked)?;
-    shuffle(&mut order);
+    if !asked.in_order {
+        shuffle(&mut order);
+    }
     let mut words = filled(alloc, asked)?;
     for j in 0..order.len() {
         link(&mut words, asked, &order, j, order[j]);

@@ -1,10 +1,12 @@
 //! Collections of a heap at rest, in rounds. `tools/timed-collection` runs this program beside an unverified one that
 //! does the same and prints the same lines, and counts what each phase takes.
 //!
-//! Words: WORDS REFS DATA LIVE ROUNDS MODE... For each MODE it makes a heap of WORDS words, of objects with REFS
+//! Words: WORDS REFS DATA LIVE ORDER ROUNDS MODE... For each MODE it makes a heap of WORDS words, of objects with REFS
 //! references and DATA data words each, of which about LIVE of a hundred are reached, and as many words into which they
-//! may slide. Then, ROUNDS times, it does what the mode says: 0, nothing; 1, a survey with no roots; 2, a survey with
-//! the heap's root; 3, a slide, by a survey that is made once before; 4, a whole collection; 7, one by 4 threads.
+//! may slide. The root reaches them in the order in which they lie, or with ORDER 0 in one that looks as if it were
+//! drawn. Then, ROUNDS times, it does what the mode says: 0, nothing; 1, a survey with no roots; 2, a survey with the
+//! heap's root; 3, a slide, by a survey that is made once before; 4, a whole collection; 5, one within a copy of the
+//! words, which is made first; 6, one by tables that are made once before; 7, one by 4 threads; 8, a copy of the words.
 #![tactic(auto)]
 
 mod asked;
@@ -42,14 +44,14 @@ fn start<R: Env + Print + Eprint + AllocGlobal + Threads + Sync>(rt: &R) -> u8 {
         return FAILED;
     };
     match asked_by(&words) {
-        Some(asked) => run_modes(rt, asked, words.get(5..).unwrap_or(&[])),
+        Some(asked) => run_modes(rt, asked, words.get(6..).unwrap_or(&[])),
         None => misused(rt),
     }
 }
 
 // Says what words there are.
 fn misused<R: Eprint>(rt: &R) -> u8 {
-    let _ = rt.eprintln("timed_collection: wants WORDS REFS DATA LIVE ROUNDS MODE...");
+    let _ = rt.eprintln("timed_collection: wants WORDS REFS DATA LIVE ORDER ROUNDS MODE...");
     MISUSED
 }
 

@@ -4,7 +4,7 @@ use crate::heaps::Heap;
 use heap_layout::Edition;
 use std::alloc::Global;
 use std::thread::Threads;
-use stopped_heap::{Survey, collect, collect_by_threads};
+use stopped_heap::{Survey, Tables, collect, collect_by_threads, collect_in_place, collect_lent};
 
 // How many threads collect.
 const WORKERS: usize = 4;
@@ -71,6 +71,54 @@ fn collect_all(alloc: Global, asked: Asked, heap: &Heap, to: &mut [u64]) -> Opti
     Some(left)
 }
 
+// Copies the words of the heap.
+fn copy(heap: &Heap, to: &mut [u64]) -> Option<()> {
+    if to.len() != heap.words.len() {
+        return None;
+    }
+    to.copy_from_slice(&heap.words);
+    Some(())
+}
+
+// Copies, and does nothing else.
+fn copy_all(asked: Asked, heap: &Heap, to: &mut [u64]) -> Option<Left> {
+    for _ in 0..asked.rounds {
+        copy(heap, to)?;
+    }
+    Some(Left::nothing(heap))
+}
+
+// Collects copies of the heap within their words.
+fn collect_all_in_place(alloc: Global, asked: Asked, heap: &Heap, to: &mut [u64]) -> Option<Left> {
+    let mut left = Left::nothing(heap);
+    for _ in 0..asked.rounds {
+        copy(heap, to)?;
+        let mut roots = [heap.root];
+        let live = collect_in_place(alloc, Edition::Three, to, &mut roots).ok()?;
+        left = Left {
+            live,
+            root: roots[0],
+        };
+    }
+    Some(left)
+}
+
+// Collects by the same tables in each round.
+fn collect_all_lent(alloc: Global, asked: Asked, heap: &Heap, to: &mut [u64]) -> Option<Left> {
+    let mut tables = Tables::reserve(alloc, heap.words.len()).ok()?;
+    let mut left = Left::nothing(heap);
+    for _ in 0..asked.rounds {
+        let mut roots = [heap.root];
+        let words = &heap.words;
+        let live = collect_lent(&mut tables, Edition::Three, words, &mut roots, to).ok()?;
+        left = Left {
+            live,
+            root: roots[0],
+        };
+    }
+    Some(left)
+}
+
 // Collects by threads.
 fn collect_all_by_threads<R: AllocGlobal + Threads + Sync>(
     rt: &R,
@@ -113,6 +161,9 @@ pub fn run<R: AllocGlobal + Threads + Sync>(
         Mode::Mark => survey_all(rt.alloc(), asked, heap, &[heap.root]),
         Mode::Slide => slide_all(rt.alloc(), asked, heap, to),
         Mode::Collect => collect_all(rt.alloc(), asked, heap, to),
+        Mode::CollectInPlace => collect_all_in_place(rt.alloc(), asked, heap, to),
+        Mode::CollectLent => collect_all_lent(rt.alloc(), asked, heap, to),
         Mode::CollectByThreads => collect_all_by_threads(rt, asked, heap, to),
+        Mode::Copy => copy_all(asked, heap, to),
     }
 }
