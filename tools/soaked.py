@@ -286,7 +286,7 @@ class Soak:
         self.marked(seed, "next", "next.img", *few, "--reachable", "heap.img", "heap.trace", shown=lines)
         named, others = self.named(draw, edition, slid + made, [roots[k] for k in held])
         (self.folder / "heap.roots").write_text("".join(f"{it}\n" for it in named))
-        rooted = ("--reachable", "--roots", "heap.roots", "heap.img", "heap.trace")
+        rooted = ("--reachable", "--workers", str(1 + seed % 5), "--roots", "heap.roots", "heap.img", "heap.trace")
         self.marked(seed, "next", "next.img", *few, *rooted, shown=lines, others=others)
 
     def named(self, draw, edition, starts, held):

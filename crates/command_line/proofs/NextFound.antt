@@ -1,11 +1,11 @@
 -- From what the parser found of `next` to what the words ask.
 use Rattle.std.proofs.Common.{◌≡◌, ◌∙◌, ℕ, Bool, true, false, List, [], ◌∷◌, Option, Some, None, codes, is_some, refl, subst, sym, true≢false}
 use Rattle.std.specs.Prelude.{IfSome}
-use Rattle.clap.specs.Words.{first_value}
+use Rattle.clap.specs.Words.{first_value, one_text}
 use Rattle.clap.specs.declared.parser.matches.Found.{Found}
-use Rattle.command_line.specs.Forms.{fresh, large, mutators, next_form, reachable, roots, text}
-use Rattle.command_line.specs.Given.{HasOption, IsCommandWith, text_given}
-use Rattle.command_line.specs.Nexts.{AsksNext, HasNext, IsMarksFound, IsNextFound, IsRootsFound, IsRootsPath, Next, says_reachable}
+use Rattle.command_line.specs.Forms.{fresh, large, mutators, next_form, reachable, roots, text, workers}
+use Rattle.command_line.specs.Given.{HasOption, IsCommandWith, Takes, text_given}
+use Rattle.command_line.specs.Nexts.{AreWorkers, AreWorkersFound, AsksNext, HasNext, IsMarksFound, IsNextFound, IsRootsFound, IsRootsPath, Next, says_reachable}
 use Rattle.command_line.proofs.Chosen.{HasArgument}
 use Rattle.command_line.proofs.Found.{CommandAsked, argument_reported, argument_there, choice_fits, choice_reported, option_read, switch_among}
 use Rattle.command_line.proofs.Reaching.{reachable_said}
@@ -49,6 +49,16 @@ roots_reported : (r : Bool) (words : List (List ℕ)) (f : Found) → (asked : C
 roots_reported true words f asked path is = sym (is ∙ option_read words f (next_form true) asked roots refl)
 roots_reported false words f asked path is = is
 
+-- with `--reachable`, a number of workers fits its bounds
+workers_fit : (r : Bool) (words : List (List ℕ)) (f : Found) → CommandAsked words f (next_form r) → r ≡ true → IfSome (one_text f (codes "workers")) (Takes workers.takes)
+workers_fit true words f asked e = choice_fits words f (next_form true) asked workers refl
+workers_fit false words f asked e = absurd (true≢false (sym e))
+
+-- and it is the one that is given
+workers_reported : (r : Bool) (words : List (List ℕ)) (f : Found) → (asked : CommandAsked words f (next_form r)) → (count : ℕ) → AreWorkersFound r f count → AreWorkers r asked.given count
+workers_reported true words f asked count is = choice_reported words f (next_form true) asked workers refl count is
+workers_reported false words f asked count is = is
+
 module _ (r : Bool) (words : List (List ℕ)) (says : r ≡ says_reachable words) (f : Found) (asked : CommandAsked words f (next_form r)) where
   -- what was found is whole
   pub next_found : HasNext r f
@@ -59,6 +69,7 @@ module _ (r : Bool) (words : List (List ℕ)) (says : r ≡ says_reachable words
     has_new = argument_there words f (next_form r) asked (text (codes "NEW")) (new_there r);
     fits_mutators = choice_fits words f (next_form r) asked mutators (mutators_there r);
     fits_fresh = choice_fits words f (next_form r) asked fresh (fresh_there r);
+    fits_workers = workers_fit r words f asked;
   }
 
   -- and it is what the words ask
@@ -74,5 +85,6 @@ module _ (r : Bool) (words : List (List ℕ)) (says : r ≡ says_reachable words
     with_new = argument_reported words f (next_form r) asked (text (codes "NEW")) (new_there r) next.new is.new_is;
     with_mutators = choice_reported words f (next_form r) asked mutators (mutators_there r) next.count is.mutators_are;
     with_fresh = choice_reported words f (next_form r) asked fresh (fresh_there r) next.pages is.fresh_are;
+    with_workers = subst (λ (b : Bool). AreWorkers b asked.given next.workers) (sym is.marks_are.reaches_is) (workers_reported r words f asked next.workers is.workers_are);
     with_large = switch_among words f (next_form r) asked [] large (reachable ∷ []) refl refl refl refl next.large is.large_is;
   }

@@ -5,7 +5,7 @@ use Rattle.std.specs.Str.{bytes_eq}
 use Rattle.std.proofs.lemmas.Bool.{or_from}
 use Rattle.std.proofs.lemmas.Option.{same_Some}
 use Rattle.std.proofs.lemmas.Slice.Eq.{bytes_eq-Decides}
-use Rattle.command_line.specs.Forms.{Choice, Parameter, fresh, large, mutators, next_form, next_paths, reachable, roots}
+use Rattle.command_line.specs.Forms.{Choice, Parameter, fresh, large, mutators, next_form, next_paths, reachable, roots, workers}
 use Rattle.command_line.specs.Given.{Gives, HasOption, IsCommandWith, Use, is_among, is_flag}
 use Rattle.command_line.specs.Given.Gives.{apart, joined, no_word, switched, then_values, to_next}
 use Rattle.command_line.specs.Nexts.{says_reachable}
@@ -46,6 +46,14 @@ one_of_three {X} test a b c x is = go (test a) is
     go true e = inl (sym (same_Some a x e))
     go false e = inr (one_of_two test b c x e)
 
+-- one of four that is found is one of them
+one_of_four : {X : Type 0} (test : X → Bool) (a b c d x : X) → find test (a ∷ b ∷ c ∷ d ∷ []) ≡ Some x → (x ≡ a) ⊎ ((x ≡ b) ⊎ ((x ≡ c) ⊎ (x ≡ d)))
+one_of_four {X} test a b c d x is = go (test a) is
+  where
+    go : (t : Bool) → cond t (Some a) (find test (b ∷ c ∷ d ∷ [])) ≡ Some x → (x ≡ a) ⊎ ((x ≡ b) ⊎ ((x ≡ c) ⊎ (x ≡ d)))
+    go true e = inl (sym (same_Some a x e))
+    go false e = inr (one_of_three test b c d x e)
+
 -- two texts with other bytes at an index are not the same
 apart_at : (a b : Text) (k : ℕ) → (slice_index a k ≡ slice_index b k → ⊥) → bytes_eq a b ≡ false
 apart_at a b k off = go (bytes_eq a b) refl
@@ -84,6 +92,14 @@ other_roots = record {
       (apart_at (codes "--roots=" ++ text) (codes "--reachable") 3 (λ e. let bad : 111 ≡ 101 = e in absurd (omega arith)));
 }
 
+other_workers : IsOther workers
+other_workers = record {
+  name = refl;
+  says = λ rest. refl;
+  joins = λ text rest. other_says (codes "--workers=" ++ text) rest (apart_at (codes "--workers=" ++ text) (codes "--") 2 (λ e. let bad : 119 ≡ 0 = e in absurd (omega arith)))
+      (apart_at (codes "--workers=" ++ text) (codes "--reachable") 2 (λ e. let bad : 119 ≡ 114 = e in absurd (omega arith)));
+}
+
 -- none of these arguments has its name
 abbrev AreOff : List Parameter → Type 0
 AreOff [] = Unit {0}
@@ -94,11 +110,14 @@ off_paths true = (refl, (refl, (refl, tt)))
 off_paths false = (refl, (refl, (refl, (refl, tt))))
 
 option_of : (by_reach : Bool) (o : Choice) → HasOption (next_form by_reach) o → IsOther o
-option_of true o has = elim (one_of_three (λ (x : Choice). bytes_eq x.takes.id o.takes.id) mutators fresh roots o has) [
+option_of true o has = elim (one_of_four (λ (x : Choice). bytes_eq x.takes.id o.takes.id) mutators fresh roots workers o has) [
   | inl e ↦ subst IsOther (sym e) other_mutators
   | inr more ↦ elim more [
     | inl e ↦ subst IsOther (sym e) other_fresh
-    | inr e ↦ subst IsOther (sym e) other_roots
+    | inr last ↦ elim last [
+      | inl e ↦ subst IsOther (sym e) other_roots
+      | inr e ↦ subst IsOther (sym e) other_workers
+    ]
   ]
 ]
 option_of false o has = elim (one_of_two (λ (x : Choice). bytes_eq x.takes.id o.takes.id) mutators fresh o has) [

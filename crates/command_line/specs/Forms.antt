@@ -125,11 +125,11 @@ roots = record { takes = text (codes "roots"); default = 0 }
 
 -- the options of `next`, with `--reachable` and without it
 abbrev pub next_options : Bool → List Choice
-next_options true = mutators ∷ fresh ∷ roots ∷ []
+next_options true = mutators ∷ fresh ∷ roots ∷ workers ∷ []
 next_options false = mutators ∷ fresh ∷ []
 
--- `next --reachable [--roots ROOTS] [--mutators N] [--fresh N] [--large] IMAGE TRACE NEW`, and without `--reachable`
--- `next [--mutators N] [--fresh N] [--large] IMAGE TRACE MARKS NEW`
+-- `next --reachable [--roots ROOTS] [--workers N] [--mutators N] [--fresh N] [--large] IMAGE TRACE NEW`, and without
+-- `--reachable` `next [--mutators N] [--fresh N] [--large] IMAGE TRACE MARKS NEW`
 abbrev pub next_form : Bool → Form
 next_form by_reach = record { name = codes "next"; options = next_options by_reach; switches = large ∷ reachable ∷ []; arguments = next_paths by_reach }
 

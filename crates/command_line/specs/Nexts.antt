@@ -3,7 +3,7 @@ use Rattle.std.specs.Prelude.{◌≡◌, ℕ, ◌≤◌, ◌&&◌, ◌||◌, Boo
 use Rattle.std.specs.Str.{bytes_eq}
 use Rattle.clap.specs.Words.{first_value, one_text}
 use Rattle.clap.specs.declared.parser.matches.Found.{Found}
-use Rattle.command_line.specs.Forms.{fresh, mutators, next_form, reachable}
+use Rattle.command_line.specs.Forms.{fresh, mutators, next_form, reachable, workers}
 use Rattle.command_line.specs.Given.{IsChosen, IsCommandWith, IsFlag, IsNumberOr, Takes, Use, is_among, text_given}
 use Rattle.command_line.specs.declared.next.NextMarks.{NextMarks}
 use Rattle.command_line.specs.declared.next.NextMarks.TheVariants.{Given, Reachable, ReachableFrom}
@@ -22,7 +22,7 @@ roots_path Reachable = None
 roots_path (ReachableFrom path) = Some path.now
 
 -- the paths of an image, of a trace, of marks if they are given, of roots if they are named, and of the new image that is
--- written; the numbers of mutators and of fresh pages; and whether heaps of edition three are read as well
+-- written; the numbers of mutators, of fresh pages and of workers; and whether heaps of edition three are read as well
 pub record Next : Type 0 where
   pub image : List ℕ
   pub trace : List ℕ
@@ -31,6 +31,7 @@ pub record Next : Type 0 where
   pub new : List ℕ
   pub count : ℕ
   pub pages : ℕ
+  pub workers : ℕ
   pub large : Bool
 
 -- the arguments in a task
@@ -43,6 +44,7 @@ next_of t = record {
   new = t.new.now;
   count = t.mutators;
   pages = t.fresh;
+  workers = t.workers;
   large = t.large;
 }
 
@@ -55,8 +57,13 @@ abbrev pub IsRootsPath : Bool → List Use → Option (List ℕ) → Type 0
 IsRootsPath true uses path = text_given (codes "roots") uses ≡ path
 IsRootsPath false uses path = path ≡ None
 
+-- with `--reachable`, this is the number that `--workers` is given, or its default; without it, it is 1
+abbrev pub AreWorkers : Bool → List Use → ℕ → Type 0
+AreWorkers true uses count = IsChosen workers uses count
+AreWorkers false uses count = count ≡ 1
+
 -- the words are `next [--mutators N] [--fresh N] [--large] IMAGE TRACE MARKS NEW`, or with `--reachable`, perhaps with
--- `--roots ROOTS` too, and without MARKS, with these arguments
+-- `--roots ROOTS` and `--workers N` too, and without MARKS, with these arguments
 pub record AsksNext (words : List (List ℕ)) (next : Next) : Type 0 where
   pub uses : List Use
   pub is_command : IsCommandWith (next_form (by_reach next)) words uses
@@ -68,13 +75,16 @@ pub record AsksNext (words : List (List ℕ)) (next : Next) : Type 0 where
   pub with_new : text_given (codes "NEW") uses ≡ Some next.new
   pub with_mutators : IsChosen mutators uses next.count
   pub with_fresh : IsChosen fresh uses next.pages
+  pub with_workers : AreWorkers (by_reach next) uses next.workers
   pub with_large : next.large ≡ is_among (codes "large") uses
 
--- there are 1 to 64 mutators, and at most 4096 fresh pages
+-- there are 1 to 64 mutators, at most 4096 fresh pages, and 1 to 64 workers
 pub record IsLawfulNext (next : Next) : Type 0 where
   pub some : 1 ≤ next.count
   pub few : next.count ≤ 64
   pub within : next.pages ≤ 4096
+  pub some_workers : 1 ≤ next.workers
+  pub few_workers : next.workers ≤ 64
 
 -- a word before the first `--` is `--reachable`
 abbrev pub says_reachable : List (List ℕ) → Bool
@@ -89,6 +99,7 @@ pub record HasNext (reaches : Bool) (found : Found) : Type 0 where
   pub has_new : is_some (first_value found (codes "NEW")) ≡ true
   pub fits_mutators : IfSome (one_text found (codes "mutators")) (Takes mutators.takes)
   pub fits_fresh : IfSome (one_text found (codes "fresh")) (Takes fresh.takes)
+  pub fits_workers : reaches ≡ true → IfSome (one_text found (codes "workers")) (Takes workers.takes)
 
 -- this is the path of the marks that was found, and none with `--reachable`
 pub record IsMarksFound (reaches : Bool) (found : Found) (marks : Option (List ℕ)) : Type 0 where
@@ -100,6 +111,11 @@ abbrev pub IsRootsFound : Bool → Found → Option (List ℕ) → Type 0
 IsRootsFound true found roots = roots ≡ first_value found (codes "roots")
 IsRootsFound false found roots = roots ≡ None
 
+-- this is the number of workers that was found with `--reachable`, and 1 without it
+abbrev pub AreWorkersFound : Bool → Found → ℕ → Type 0
+AreWorkersFound true found count = IsNumberOr workers.default (one_text found (codes "workers")) count
+AreWorkersFound false found count = count ≡ 1
+
 -- these are what was found, with the default of each option that was left out
 pub record IsNextFound (reaches : Bool) (found : Found) (next : Next) : Type 0 where
   pub image_is : Some next.image ≡ first_value found (codes "IMAGE")
@@ -109,4 +125,5 @@ pub record IsNextFound (reaches : Bool) (found : Found) (next : Next) : Type 0 w
   pub new_is : Some next.new ≡ first_value found (codes "NEW")
   pub mutators_are : IsNumberOr mutators.default (one_text found (codes "mutators")) next.count
   pub fresh_are : IsNumberOr fresh.default (one_text found (codes "fresh")) next.pages
+  pub workers_are : AreWorkersFound reaches found next.workers
   pub large_is : IsFlag (one_text found (codes "large")) next.large

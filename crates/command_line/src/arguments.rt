@@ -64,7 +64,7 @@ pub(crate) fn workers_option<'a>(alloc: Global) -> Arg<'a>
         "workers",
         1,
         64,
-        "How many workers slide objects, 1 to 64 (2 by default)",
+        "How many workers slide or mark objects, 1 to 64 (2 by default)",
     )
 }
 

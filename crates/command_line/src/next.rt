@@ -1,22 +1,25 @@
 //! The command `next`.
-ghost use Rattle.std.specs.Prelude.{◌≡◌, codes, false, is_some, map, true, IfOk};
+ghost use Rattle.std.specs.Prelude.{◌≡◌, ◌≤◌, codes, false, is_some, map, true, IfOk, IfSome};
 ghost use Rattle.std.specs.String.{string_bytes};
-ghost use Rattle.clap.specs.Words.{app_of, first_value, found_of, new_app, rule_of, with_rule, App};
-ghost use Rattle.command_line.specs.Forms.{large, next_form, reachable, text};
-ghost use Rattle.command_line.specs.Nexts.{marks_path, next_of, roots_path, says_reachable, HasNext, IsLawfulNext, IsMarksFound, IsNextFound, IsRootsFound};
+ghost use Rattle.clap.specs.Words.{app_of, first_value, found_of, new_app, one_text, rule_of, with_rule, App};
+ghost use Rattle.command_line.specs.Forms.{large, next_form, reachable, text, workers};
+ghost use Rattle.command_line.specs.Given.{Takes};
+ghost use Rattle.command_line.specs.Nexts.{marks_path, next_of, roots_path, says_reachable, AreWorkersFound, HasNext, IsLawfulNext, IsMarksFound, IsNextFound, IsRootsFound};
 ghost use Rattle.command_line.specs.Parser.{command as command_of, rule, switch_rule};
 
 use crate::arguments::{
     Made, fresh_option, image_argument, large_switch, mutators_option, named_command, new_argument,
-    path_argument, reachable_switch, roots_option, trace_argument, with_argument,
+    path_argument, reachable_switch, roots_option, trace_argument, with_argument, workers_option,
 };
-use crate::values::{DEFAULT_FRESH, DEFAULT_MUTATORS, count_of, is_large, text_of};
+use crate::values::{
+    DEFAULT_FRESH, DEFAULT_MUTATORS, DEFAULT_WORKERS, count_of, is_large, text_of,
+};
 use clap::{Arg, ArgMatches};
 use std::alloc::Global;
 
 // How `next` is called: with the marks, or marked by its roots.
 const USAGE: &str = "compressor next [OPTIONS] <IMAGE> <TRACE> <MARKS> <NEW>
-       compressor next [OPTIONS] --reachable [--roots <ROOTS>] <IMAGE> <TRACE> <NEW>";
+       compressor next [OPTIONS] --reachable [--roots <ROOTS>] [--workers <N>] <IMAGE> <TRACE> <NEW>";
 
 /// How the next heap is marked.
 #[derive(Debug, Drop)]
@@ -44,6 +47,8 @@ pub struct NextRun<'a> {
     pub mutators: u8,
     /// The number of fresh pages, at most 4,096.
     pub fresh: u32,
+    /// The number of workers that mark what is reached, 1 to 64. It is 1 if the marks are given.
+    pub workers: u8,
     /// Whether heaps of editions three and four are read as well.
     pub large: bool,
 }
@@ -79,6 +84,19 @@ fn marks_of<'a>(found: &ArgMatches<'a>, reaches: bool) -> NextMarks<'a>
     }
 }
 
+// The number of workers in what the parser found.
+fn workers_of(found: &ArgMatches, reaches: bool) -> u8
+    requires { reaches ≡ true → IfSome (one_text (found_of found.now) (codes "workers")) (Takes workers.takes) }
+    ensures found { AreWorkersFound reaches (found_of found.now) result }
+    ensures within { (1 ≤ result) × (result ≤ 64) }
+{
+    if reaches {
+        count_of(found, "workers", DEFAULT_WORKERS) as u8
+    } else {
+        1
+    }
+}
+
 /// The arguments of `next` in what the parser found, with `--reachable` or without it.
 pub(crate) fn next_run<'a>(found: &ArgMatches<'a>, reaches: bool) -> NextRun<'a>
     requires { HasNext reaches (found_of found.now) }
@@ -92,6 +110,7 @@ pub(crate) fn next_run<'a>(found: &ArgMatches<'a>, reaches: bool) -> NextRun<'a>
         new: text_of(found, "NEW"),
         mutators: count_of(found, "mutators", DEFAULT_MUTATORS) as u8,
         fresh: count_of(found, "fresh", DEFAULT_FRESH) as u32,
+        workers: workers_of(found, reaches),
         large: is_large(found),
     }
 }
@@ -104,7 +123,8 @@ pub(crate) fn next_command<'a>(alloc: Global, reaches: bool) -> Made<'a>
     let of_counts = with_argument(of_mutators, fresh_option(alloc));
     if reaches {
         let of_roots = with_argument(of_counts, roots_option(alloc));
-        let of_inputs = with_inputs(alloc, of_roots);
+        let of_workers = with_argument(of_roots, workers_option(alloc));
+        let of_inputs = with_inputs(alloc, of_workers);
         with_argument(of_inputs, new_argument(alloc))
     } else {
         let of_inputs = with_inputs(alloc, of_counts);

@@ -14,7 +14,7 @@ ghost use Rattle.commands.specs.Leaving.{LeavesOutput};
 use crate::mark::write_marked;
 use command_io::{CommandRefusal, Files, parts_at};
 use heap_layout::{Counted, Edition, ImageParts, LayoutFault, MarkedHeap};
-use reachability::reachable_heap;
+use reachability::reachable_heap_by_threads;
 use std::alloc::Global;
 use std::io::Write;
 use std::thread::Threads;
@@ -80,7 +80,7 @@ fn collect_by_roots<R: Threads + Sync>(
     let mut roots = parts.roots;
     let words = slide_reached(alloc, rt, parts.edition, &parts.words, &mut roots, workers)?;
     drop(parts.words);
-    mark_left(alloc, parts.edition, words, roots)
+    mark_left(alloc, rt, parts.edition, words, roots, workers)
 }
 
 // Slides what the roots reach into new memory, and makes the roots lead there.
@@ -124,17 +124,20 @@ fn uncollected(
 }
 
 // Marks what a collection left by its roots, which reach all of it.
-fn mark_left(
+fn mark_left<R: Threads + Sync>(
     alloc: Global,
+    rt: &R,
     edition: Edition,
     words: Vec<u64>,
     roots: Vec<u64>,
+    workers: u8,
 ) -> Result<MarkedHeap, CommandRefusal>
     requires { (heap : Heap) × (edition ≡ heap.edition) × IsReachedHeap heap heap × AreLeftBy heap words.items roots.items }
     ensures left { (heap : Heap) → edition ≡ heap.edition → IsReachedHeap heap heap → AreLeftBy heap words.items roots.items → IfOk result (IsLeftBy heap) }
     ensures cause { IfErr result (λ refusal. refusal ≡ refusals.OutOfMemory) }
 {
-    match reachable_heap(alloc, edition, words, roots) {
+    let threads = usize::from(workers);
+    match reachable_heap_by_threads(alloc, rt, threads, edition, words, roots) {
         Ok(heap) => Ok(heap),
         Err(fault) => {
             let memory = matches!(fault, LayoutFault::OutOfMemory);

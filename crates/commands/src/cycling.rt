@@ -14,7 +14,7 @@ use comp_mutator::Finished;
 use comp_trace::{Halt, Marking, NewRoot, Shown, Trace, next_marked, root_words, run_cycle};
 use heap_layout::MarkedHeap;
 use page_plan::Plan;
-use reachable_cycles::next_reachable_with;
+use reachable_cycles::{next_reachable_by_threads, next_reachable_with_by_threads};
 use std::alloc::Global;
 use std::sync::Arc;
 use std::thread::Threads;
@@ -60,19 +60,20 @@ pub fn printed_cycle(left: &Uncycled) -> (&[Shown], CommandRefusal)
 /// Flips a heap, runs a trace over it by one thread, finishes it, and makes the heap with which the next cycle begins,
 /// from what is handed in. There are 1 to 64 mutators and at most 4,096 fresh pages. The trace was parsed for these
 /// mutators and for the heap's number of roots. A root that is a register is one of these mutators, and names the word
-/// that the register holds when the run ends.
+/// that the register holds when the run ends. What roots reach is marked by at most `workers` threads.
 ///
 /// It is refused if a line is refused, with the values of the lines before it; if the next heap is refused, with its
 /// first fault, which is `TooLarge` if that heap is marked by what its roots reach, or `BadRoot` for the first root
 /// that is handed in and leads nowhere; and if memory runs out. Of the last two no value is printed.
-pub fn cycle_heap(
+pub fn cycle_heap<R: Threads + Sync>(
     alloc: Global,
-    rt: &(impl Threads + Sync),
+    rt: &R,
     heap: MarkedHeap,
     trace: &Trace,
     handed: Handed,
     mutators: u8,
     fresh: u32,
+    workers: u8,
 ) -> Result<Cycled, Uncycled>
     requires mutators { (1 ≤ mutators) × (mutators ≤ 64) }
     requires fresh { fresh ≤ 4096 }
@@ -82,24 +83,36 @@ pub fn cycle_heap(
     ensures halted { IfErr result (λ left. IsUncycled mutators fresh (lines_of trace.now) (shown_by left) (given_by handed) heap (refusal_by left)) }
 {
     match run_cycle(alloc, rt, heap, trace, mutators, fresh) {
-        Ok(ran) => match make_next(alloc, ran.plan, ran.finished, &ran.registers, handed) {
-            Ok(heap) => Ok(Cycled {
-                shown: ran.shown,
-                heap,
-            }),
-            Err(refusal) => Err(Uncycled::Unfollowed(refusal)),
-        },
+        Ok(ran) => {
+            match make_next(
+                alloc,
+                rt,
+                ran.plan,
+                ran.finished,
+                &ran.registers,
+                handed,
+                workers,
+            ) {
+                Ok(heap) => Ok(Cycled {
+                    shown: ran.shown,
+                    heap,
+                }),
+                Err(refusal) => Err(Uncycled::Unfollowed(refusal)),
+            }
+        }
         Err(halt) => Err(Uncycled::Halted(halt)),
     }
 }
 
 // The heap with which the next cycle begins, from what is handed in, if it is accepted.
-fn make_next(
+fn make_next<R: Threads + Sync>(
     alloc: Global,
+    rt: &R,
     plan: Arc<Plan>,
     finished: Finished,
     registers: &[[u64; 16]],
     handed: Handed,
+    workers: u8,
 ) -> Result<MarkedHeap, CommandRefusal>
     requires end { IsEndOf plan.value finished }
     requires within { IsGivenWithin (length registers.now) (given_by handed) }
@@ -109,43 +122,83 @@ fn make_next(
         → IsUnmarked plan.value finished (given_by handed).marks (words_named now (given_by handed).roots) refusal) }
 {
     match handed {
-        Handed::Marked(marking) => mark_anew(alloc, plan, finished, marking),
+        Handed::Marked(marking) => mark_anew(alloc, rt, plan, finished, marking, workers),
         Handed::Roots(roots) => {
             let words = root_words(alloc, registers, &roots)?;
-            root_anew(alloc, plan, finished, &words)
+            root_anew(alloc, rt, plan, finished, &words, workers)
         }
     }
 }
 
 // That heap with other roots, marked by what they reach, if it is accepted.
-fn root_anew(
+fn root_anew<R: Threads + Sync>(
     alloc: Global,
+    rt: &R,
     plan: Arc<Plan>,
     finished: Finished,
     roots: &[u64],
+    workers: u8,
 ) -> Result<MarkedHeap, CommandRefusal>
     requires end { IsEndOf plan.value finished }
     ensures next { IfOk result (IsNextHeap plan.value finished None (Some roots.now)) }
     ensures refused { IfErr result (IsUnmarked plan.value finished None (Some roots.now)) }
 {
-    match next_reachable_with(finished, alloc, &*plan, roots) {
+    let threads = usize::from(workers);
+    match next_reachable_with_by_threads(finished, alloc, rt, threads, &*plan, roots) {
         Ok(heap) => Ok(heap),
         Err(left) => Err(CommandRefusal::Layout(left.fault)),
     }
 }
 
 // The heap with which the next cycle begins, marked so, if it is accepted. The roots stay.
-fn mark_anew(
+fn mark_anew<R: Threads + Sync>(
     alloc: Global,
+    rt: &R,
     plan: Arc<Plan>,
     finished: Finished,
     marking: Marking,
+    workers: u8,
 ) -> Result<MarkedHeap, CommandRefusal>
     requires end { IsEndOf plan.value finished }
     ensures next { IfOk result (IsNextHeap plan.value finished (marks_given marking) None) }
     ensures refused { IfErr result (IsUnmarked plan.value finished (marks_given marking) None) }
 {
-    match next_marked(finished, alloc, &*plan, marking) {
+    match marking {
+        Marking::Given(marks) => mark_given(alloc, plan, finished, marks),
+        Marking::Reachable => mark_reached(alloc, rt, plan, finished, workers),
+    }
+}
+
+// That heap with these marks, if it is accepted. The roots stay.
+fn mark_given(
+    alloc: Global,
+    plan: Arc<Plan>,
+    finished: Finished,
+    marks: Vec<u32>,
+) -> Result<MarkedHeap, CommandRefusal>
+    requires end { IsEndOf plan.value finished }
+    ensures next { IfOk result (IsNextHeap plan.value finished (Some marks.items) None) }
+    ensures refused { IfErr result (IsUnmarked plan.value finished (Some marks.items) None) }
+{
+    match next_marked(finished, alloc, &*plan, Marking::Given(marks)) {
+        Ok(heap) => Ok(heap),
+        Err(left) => Err(CommandRefusal::Layout(left.fault)),
+    }
+}
+
+// That heap, marked by what its roots reach, if it is accepted. The roots stay.
+fn mark_reached<R: Threads + Sync>(
+    alloc: Global,
+    rt: &R,
+    plan: Arc<Plan>,
+    finished: Finished,
+    workers: u8,
+) -> Result<MarkedHeap, CommandRefusal>
+    requires end { IsEndOf plan.value finished }
+    ensures next { IfOk result (IsNextHeap plan.value finished None None) }
+    ensures refused { IfErr result (IsUnmarked plan.value finished None None) }
+{
+    match next_reachable_by_threads(finished, alloc, rt, usize::from(workers), &*plan) {
         Ok(heap) => Ok(heap),
         Err(left) => Err(CommandRefusal::Layout(left.fault)),
     }

@@ -23,8 +23,9 @@ use std::thread::Threads;
 /// The command `mark`.
 ///
 /// It reads the image at `image`, of edition three or four only if `large`. Whatever marks it has, it marks exactly the
-/// objects that the roots reach, in up to so many threads, and checks the heap with these marks. It writes the image of that heap to `new`, and
-/// flushes it. Last it prints the live words. Fewer than `u64::MAX` calls of the output must have failed before.
+/// objects that the roots reach, by at most `workers` threads, and checks the heap with these marks. It writes the image
+/// of that heap to `new`, and flushes it. Last it prints the live words. Fewer than `u64::MAX` calls of the output must
+/// have failed before.
 ///
 /// The first of these steps that is refused ends it. A refusal other than `CannotPrint` prints nothing. The new image
 /// is created only after that heap was made. If a call of its writer fails, the writer has taken a beginning of it.

@@ -29,7 +29,7 @@ use std::thread::Threads;
 /// It reads the image, then the trace for its heap, and then the marks or the roots, if they are given. It runs the
 /// trace over the heap by one thread, with 1 to 64 mutators and at most 4,096 fresh pages. It makes the heap with which
 /// the next cycle begins, with these marks, or else marked by what its roots reach: those that are given, or else those
-/// that stay. It writes the image of that heap, and flushes it.
+/// that stay. At most `asked.workers` threads mark what they reach. It writes the image of that heap, and flushes it.
 /// Last it prints a line for each value that was shown, and the live words of that heap. Fewer than `u64::MAX` calls of
 /// the output must have failed before.
 ///
@@ -68,6 +68,7 @@ pub fn print_next<F: Files, O: Write>(
         handed,
         asked.mutators,
         asked.fresh,
+        asked.workers,
     );
     write_made(files, asked.new, made, out)
 }

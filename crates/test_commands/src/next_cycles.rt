@@ -56,6 +56,7 @@ fn write_next(
         new: cycle.path,
         mutators: 1,
         fresh: 2,
+        workers: 1,
         large: false,
     };
     let mut counted = Counted::new(&mut *out);

@@ -58,7 +58,7 @@ fn expect_tasks(rt: &(impl Abort + AllocGlobal), asked: &[AskedTask]) {
 }
 
 // Lines and the tasks that they ask for.
-static TASKS: [AskedTask; 58] = [
+static TASKS: [AskedTask; 60] = [
     (
         "plan three.img",
         "Plan { image: \"three.img\", large: false }",
@@ -142,15 +142,15 @@ static TASKS: [AskedTask; 58] = [
     ),
     (
         "next three.img t18 m new",
-        "Next(NextRun { image: \"three.img\", trace: \"t18\", marks: Given(\"m\"), new: \"new\", mutators: 2, fresh: 64, large: false })",
+        "Next(NextRun { image: \"three.img\", trace: \"t18\", marks: Given(\"m\"), new: \"new\", mutators: 2, fresh: 64, workers: 1, large: false })",
     ),
     (
         "next --mutators 1 --fresh=2 three.img t18 m new",
-        "Next(NextRun { image: \"three.img\", trace: \"t18\", marks: Given(\"m\"), new: \"new\", mutators: 1, fresh: 2, large: false })",
+        "Next(NextRun { image: \"three.img\", trace: \"t18\", marks: Given(\"m\"), new: \"new\", mutators: 1, fresh: 2, workers: 1, large: false })",
     ),
     (
         "next a --mutators=64 t -- -m --fresh",
-        "Next(NextRun { image: \"a\", trace: \"t\", marks: Given(\"-m\"), new: \"--fresh\", mutators: 64, fresh: 64, large: false })",
+        "Next(NextRun { image: \"a\", trace: \"t\", marks: Given(\"-m\"), new: \"--fresh\", mutators: 64, fresh: 64, workers: 1, large: false })",
     ),
     (
         "plan --large three.img",
@@ -266,27 +266,35 @@ static TASKS: [AskedTask; 58] = [
     ),
     (
         "next --large a t m n",
-        "Next(NextRun { image: \"a\", trace: \"t\", marks: Given(\"m\"), new: \"n\", mutators: 2, fresh: 64, large: true })",
+        "Next(NextRun { image: \"a\", trace: \"t\", marks: Given(\"m\"), new: \"n\", mutators: 2, fresh: 64, workers: 1, large: true })",
     ),
     (
         "next --reachable three.img t18 new",
-        "Next(NextRun { image: \"three.img\", trace: \"t18\", marks: Reachable, new: \"new\", mutators: 2, fresh: 64, large: false })",
+        "Next(NextRun { image: \"three.img\", trace: \"t18\", marks: Reachable, new: \"new\", mutators: 2, fresh: 64, workers: 2, large: false })",
     ),
     (
         "next --large a t --fresh 2 n --reachable --",
-        "Next(NextRun { image: \"a\", trace: \"t\", marks: Reachable, new: \"n\", mutators: 2, fresh: 2, large: true })",
+        "Next(NextRun { image: \"a\", trace: \"t\", marks: Reachable, new: \"n\", mutators: 2, fresh: 2, workers: 2, large: true })",
     ),
     (
         "next --reachable --roots r a t n",
-        "Next(NextRun { image: \"a\", trace: \"t\", marks: ReachableFrom(\"r\"), new: \"n\", mutators: 2, fresh: 64, large: false })",
+        "Next(NextRun { image: \"a\", trace: \"t\", marks: ReachableFrom(\"r\"), new: \"n\", mutators: 2, fresh: 64, workers: 2, large: false })",
     ),
     (
         "next a t n --roots= --reachable",
-        "Next(NextRun { image: \"a\", trace: \"t\", marks: ReachableFrom(\"\"), new: \"n\", mutators: 2, fresh: 64, large: false })",
+        "Next(NextRun { image: \"a\", trace: \"t\", marks: ReachableFrom(\"\"), new: \"n\", mutators: 2, fresh: 64, workers: 2, large: false })",
+    ),
+    (
+        "next --workers 64 --reachable a t n",
+        "Next(NextRun { image: \"a\", trace: \"t\", marks: Reachable, new: \"n\", mutators: 2, fresh: 64, workers: 64, large: false })",
+    ),
+    (
+        "next --reachable a --workers=1 t --roots r n",
+        "Next(NextRun { image: \"a\", trace: \"t\", marks: ReachableFrom(\"r\"), new: \"n\", mutators: 2, fresh: 64, workers: 1, large: false })",
     ),
     (
         "next a -- t --reachable n",
-        "Next(NextRun { image: \"a\", trace: \"t\", marks: Given(\"--reachable\"), new: \"n\", mutators: 2, fresh: 64, large: false })",
+        "Next(NextRun { image: \"a\", trace: \"t\", marks: Given(\"--reachable\"), new: \"n\", mutators: 2, fresh: 64, workers: 1, large: false })",
     ),
 ];
 
@@ -339,7 +347,8 @@ static USES: [&str; 4] = [
 #[test]
 fn both_forms_of_next_are_shown(rt: HostRuntime) {
     let given = "Usage: compressor next [OPTIONS] <IMAGE> <TRACE> <MARKS> <NEW>";
-    let reached = "compressor next [OPTIONS] --reachable [--roots <ROOTS>] <IMAGE> <TRACE> <NEW>";
+    let reached =
+        "compressor next [OPTIONS] --reachable [--roots <ROOTS>] [--workers <N>] <IMAGE> <TRACE> <NEW>";
     expect_lines(&rt, &USES, Answer::Shows(given));
     expect_lines(&rt, &USES, Answer::Shows(reached));
 }

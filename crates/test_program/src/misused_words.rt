@@ -2,7 +2,7 @@
 use crate::asked_tasks::{Answer, expect_lines};
 
 // Lines that are no command.
-static NO_COMMANDS: [&str; 102] = [
+static NO_COMMANDS: [&str; 105] = [
     "plan --large",
     "plan --large --large a",
     "audit --large=1 a b",
@@ -103,6 +103,9 @@ static NO_COMMANDS: [&str; 102] = [
     "next --roots r a t n",
     "next --reachable --roots a t n",
     "next --reachable --roots r --roots s a t n",
+    "next --workers 2 a t m n",
+    "next --reachable --workers 0 a t n",
+    "next --reachable --workers 65 a t n",
     "plan --reachable a",
     "--reachable next a t n",
 ];

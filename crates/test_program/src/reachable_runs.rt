@@ -26,6 +26,10 @@ const MADE: Content = Content::Text("0 root 0 0\n0 new 1 0 0 9\n");
 const NEXT: &str =
     "next --reachable --mutators 1 --fresh 2 reach.tests.img reach.tests.trace reach.tests.new";
 
+// The same cycle with one worker, to another path.
+const ALONE_MARKED: &str =
+    "next --reachable --workers 1 --mutators 1 --fresh 2 reach.tests.img reach.tests.trace reach.tests.one";
+
 /// Cycles in editions one, two and three.
 pub const REACHED: &[Step] = &[
     Step::Write("reach.tests.img", Content::ThreeImage),
@@ -39,10 +43,15 @@ pub const REACHED: &[Step] = &[
     Step::Prints("word reach.tests.new 0", "12884901889\n"),
     Step::Prints("word reach.tests.new 1", "8589934594\n"),
     Step::Prints("word reach.tests.new 2", "38654705664\n"),
+    // However many workers there are.
+    Step::Prints(ALONE_MARKED, "live 3\n"),
+    Step::Length("reach.tests.one", 1_576),
+    Step::Prints("word reach.tests.one 2", "38654705664\n"),
+    Step::Remove("reach.tests.one"),
     // The image may replace the one that was read.
     Step::Write("reach.tests.trace", NO_TEXT),
     Step::Prints(
-        "next reach.tests.new reach.tests.trace reach.tests.new --fresh=0 --reachable",
+        "next reach.tests.new reach.tests.trace reach.tests.new --fresh=0 --reachable --workers=64",
         "live 3\n",
     ),
     Step::Length("reach.tests.new", 552),
@@ -90,6 +99,10 @@ pub const REACHED: &[Step] = &[
 const ROOTED: &str =
     "next --reachable --roots reach.tests.roots --mutators 1 --fresh 2 reach.tests.img reach.tests.trace reach.tests.new";
 
+// The same by one worker.
+const ROOTED_ALONE: &str =
+    "next --reachable --workers 1 --roots reach.tests.roots --mutators 1 --fresh 2 reach.tests.img reach.tests.trace reach.tests.new";
+
 // The plan of a next heap in which only the object of word 64 is marked.
 const MADE_ALONE: &str = "live 1\npages 1\npage 0 first 64\nroot 0 8589934592\n";
 
@@ -106,6 +119,9 @@ pub const ROOTS_NAMED: &[Step] = &[
     // So does its address.
     Step::Write("reach.tests.roots", Content::Text("8589934656\n")),
     Step::Prints(ROOTED, "live 1\n"),
+    Step::Prints("plan reach.tests.new", MADE_ALONE),
+    // However many workers there are.
+    Step::Prints(ROOTED_ALONE, "live 1\n"),
     Step::Prints("plan reach.tests.new", MADE_ALONE),
     // The first object alone, by its address.
     Step::Write("reach.tests.roots", Content::Text("8589934592\n")),

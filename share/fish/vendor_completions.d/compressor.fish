@@ -20,7 +20,7 @@ complete -c compressor -n '__fish_seen_subcommand_from help' -f -a "$commands he
 complete -c compressor -n "__fish_seen_subcommand_from $commands" -l large -d 'Also read editions three and four'
 complete -c compressor -n '__fish_seen_subcommand_from replay race next' -l mutators -x -d '1 to 64 mutators'
 complete -c compressor -n '__fish_seen_subcommand_from replay race next' -l fresh -x -d '0 to 4096 fresh pages'
-complete -c compressor -n '__fish_seen_subcommand_from compact mark collect' -l workers -x -d '1 to 64 workers'
+complete -c compressor -n '__fish_seen_subcommand_from compact next mark collect' -l workers -x -d '1 to 64 workers'
 complete -c compressor -n '__fish_seen_subcommand_from audit' -l whole -d 'Each compacted page has to be built'
 complete -c compressor -n '__fish_seen_subcommand_from audit' -l words -d 'The second file has words and roots'
 complete -c compressor -n '__fish_seen_subcommand_from audit' -l explain -d 'Say what is wrong where'

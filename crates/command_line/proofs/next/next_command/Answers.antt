@@ -5,8 +5,9 @@ returns-then-reaches c =
     let one = c.with_argument-of_mutators.ensures _ _ c.bare_next.ensures c.mutators_option.ensures.rule c.mutators_option.ensures.local in
     let two = c.with_argument-of_counts.ensures _ _ one c.fresh_option.ensures.rule c.fresh_option.ensures.local in
     let three = c.with_argument-of_roots.ensures _ _ two c.roots_option.ensures.rule c.roots_option.ensures.local in
-    let four = c.with_inputs-of_inputs.ensures _ three in
-    rw c.if-reaches.true (c.with_argument.ensures _ _ four c.new_argument.ensures.rule c.new_argument.ensures.local)
+    let four = c.with_argument-of_workers.ensures _ _ three c.workers_option.ensures.rule c.workers_option.ensures.local in
+    let five = c.with_inputs-of_inputs.ensures _ four in
+    rw c.if-reaches.true (c.with_argument.ensures _ _ five c.new_argument.ensures.rule c.new_argument.ensures.local)
 
 pub returns-else-reaches : goal.returns-else-reaches
 returns-else-reaches c =

@@ -24,6 +24,7 @@ returns-clause-run c = record {
   new_is = c.text_of-3.ensures;
   mutators_are = c.count_of.ensures;
   fresh_are = c.count_of-2.ensures;
+  workers_are = c.workers_of.ensures.found;
   large_is = c.is_large.ensures;
 }
 
@@ -34,4 +35,6 @@ returns-clause-counts c =
       some = count.0;
       few = count.1;
       within = fresh_within (found_of c.args.found.now) c.requires.fits_fresh c.count_of-2.result c.count_of-2.ensures;
+      some_workers = c.workers_of.ensures.within.0;
+      few_workers = c.workers_of.ensures.within.1;
     }

@@ -10,7 +10,7 @@ use Rattle.commands.proofs.CycledHeaps.{cycled, halted_run, not_followed}
 use Rattle.commands.proofs.cycling.cycle_heap.Goals as goal
 
 pub make_next-requires-clause-within : goal.make_next-requires-clause-within
-make_next-requires-clause-within g c =
+make_next-requires-clause-within g c = λ lives outlives.
     subst (λ (l : List (List ℕ)). IsGivenWithin (length l) (given_by c.args.handed)) (sym c.deref.ensures.value)
     (subst (λ (n : ℕ). IsGivenWithin n (given_by c.args.handed)) (sym c.in-Ok.ensures.registers.registers_are.count) c.requires.within)
 

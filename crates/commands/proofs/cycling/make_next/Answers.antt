@@ -8,7 +8,7 @@ use Rattle.commands.proofs.CycledHeaps.{named_by, next_named, refused_named}
 use Rattle.commands.proofs.cycling.make_next.Goals as goal
 
 pub returns-in_ok-words-in-Roots-clause-next : goal.returns-in_ok-words-in-Roots-clause-next
-returns-in_ok-words-in-Roots-clause-next c =
+returns-in_ok-words-in-Roots-clause-next g c =
     let heap = c.args.plan.value in
     let f = c.args.finished in
     let registers = c.args.registers.now in
@@ -20,7 +20,7 @@ returns-in_ok-words-in-Roots-clause-next c =
     (sym c.in-Roots.is) (IfOk-weaker c.root_anew.result _ _ (next_named heap f (length registers) registers handed roots named) c.root_anew.ensures.next)
 
 pub returns-in_ok-words-in-Roots-clause-refused : goal.returns-in_ok-words-in-Roots-clause-refused
-returns-in_ok-words-in-Roots-clause-refused c =
+returns-in_ok-words-in-Roots-clause-refused g c =
     let heap = c.args.plan.value in
     let f = c.args.finished in
     let registers = c.args.registers.now in

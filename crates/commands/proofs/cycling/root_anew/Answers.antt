@@ -5,7 +5,7 @@ use Rattle.commands.specs.Cycled.{IsNextHeap, IsUnmarked}
 use Rattle.commands.proofs.cycling.root_anew.Goals as goal
 
 pub returns-in-Ok-clause-next : goal.returns-in-Ok-clause-next
-returns-in-Ok-clause-next c =
+returns-in-Ok-clause-next g c =
     let made = c.in-Ok.ensures in
     let roots = Some c.args.roots.now in
     let next : IsNextHeap c.deref.result.now c.args.finished None roots c.in-Ok.heap = record {
@@ -19,5 +19,5 @@ returns-in-Ok-clause-next c =
     subst (λ (heap : Heap). IsNextHeap heap c.args.finished None roots c.in-Ok.heap) c.deref.ensures next
 
 pub returns-clause-refused : goal.returns-clause-refused
-returns-clause-refused c =
+returns-clause-refused g c =
     subst (λ (heap : Heap). IsUnmarked heap c.args.finished None (Some c.args.roots.now) (Layout c.in-Err.left.fault)) c.deref.ensures c.in-Err.ensures.refused

@@ -1,14 +1,13 @@
 use Rattle.heap_layout.specs.Heap.{Heap}
-use Rattle.std.proofs.Common.{None, subst}
+use Rattle.std.proofs.Common.{None, Some, subst}
 use Rattle.command_io.specs.declared.refusal.CommandRefusal.TheVariants.{Layout}
-use Rattle.comp_trace.specs.Markings.{marks_given}
 use Rattle.commands.specs.Cycled.{IsNextHeap, IsUnmarked}
-use Rattle.commands.proofs.cycling.mark_anew.Goals as goal
+use Rattle.commands.proofs.cycling.mark_given.Goals as goal
 
 pub returns-in-Ok-clause-next : goal.returns-in-Ok-clause-next
 returns-in-Ok-clause-next c =
     let made = c.in-Ok.ensures in
-    let given = marks_given c.args.marking in
+    let given = Some c.args.marks.items in
     let next : IsNextHeap c.deref.result.now c.args.finished given None c.in-Ok.heap = record {
       ended = record { cycle = made.cycle; marked = made.marked };
       chapter = made.chapter;
@@ -21,4 +20,4 @@ returns-in-Ok-clause-next c =
 
 pub returns-clause-refused : goal.returns-clause-refused
 returns-clause-refused c =
-    subst (λ (heap : Heap). IsUnmarked heap c.args.finished (marks_given c.args.marking) None (Layout c.in-Err.left.fault)) c.deref.ensures c.in-Err.ensures.refused
+    subst (λ (heap : Heap). IsUnmarked heap c.args.finished (Some c.args.marks.items) None (Layout c.in-Err.left.fault)) c.deref.ensures c.in-Err.ensures.refused

@@ -1,0 +1,22 @@
+use Rattle.heap_layout.specs.Heap.{Heap}
+use Rattle.std.proofs.Common.{None, subst}
+use Rattle.command_io.specs.declared.refusal.CommandRefusal.TheVariants.{Layout}
+use Rattle.commands.specs.Cycled.{IsNextHeap, IsUnmarked}
+use Rattle.commands.proofs.cycling.mark_reached.Goals as goal
+
+pub returns-in-Ok-clause-next : goal.returns-in-Ok-clause-next
+returns-in-Ok-clause-next g c =
+    let made = c.in-Ok.ensures in
+    let next : IsNextHeap c.deref.result.now c.args.finished None None c.in-Ok.heap = record {
+      ended = record { cycle = made.cycle; marked = made.reachable };
+      chapter = made.chapter;
+      keeps = made.keeps;
+      next_is = made.next;
+      stored = made.stored;
+      accepted = made.accepted;
+    } in
+    subst (λ (heap : Heap). IsNextHeap heap c.args.finished None None c.in-Ok.heap) c.deref.ensures next
+
+pub returns-clause-refused : goal.returns-clause-refused
+returns-clause-refused g c =
+    subst (λ (heap : Heap). IsUnmarked heap c.args.finished None None (Layout c.in-Err.left.fault)) c.deref.ensures c.in-Err.ensures.refused
