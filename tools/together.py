@@ -3,11 +3,11 @@
 usage: together.py ROOM CRATE
 
 ROOM is a copy of the checkout's crates, in which the wrong bodies of CRATE stand in must-fail/. Edits of different
-functions are made at once, and the crate is checked once. A function is proved by its own body and by what it calls
-promises, so an edit is refused if the check finds no proof of the function that it edits, and names no other function
-as the reason. Where it does, or where two edits are of one function, they wait for the next round. An edit that no
-function holds is tried alone. Prints a line for each edit that is not refused, or cannot be made. Status: 0 if all are
-refused, else 1.
+functions are made at once, and the crate is checked once, past open goals. A function is proved by its own body and by
+what it calls promises, so an edit is refused if the check says what it could not prove in the function that it edits.
+Where it says only that the function calls another that is not proved, or where two edits are of one function, they wait
+for the next round. An edit that no function holds is tried alone. Prints a line for each edit that is not refused, or
+cannot be made. Status: 0 if all are refused, else 1.
 """
 import re
 import subprocess
@@ -19,6 +19,9 @@ NAME = sys.argv[2]
 CRATE = ROOM / "crates" / NAME
 FUNCTION = re.compile(r'^ *(?:pub(?:\([a-z]+\))? )?(?:const )?(?:extern "C" )?fn ([A-Za-z0-9_]+)', re.M)
 REPORT = re.compile(r"^(?:fn|impl|struct|enum|trait) (\S+): (.*)$", re.M)
+# What the check says of a function some goal of which has no proof.
+PROVED = ("proved", "no holes")
+OWN = re.compile("it stands on|did not prove|which antt refuses")
 # One check tries so many edits at most: past that the failed searches take longer than another start.
 MOST = 40
 
@@ -59,8 +62,9 @@ class Edit:
 
 def check():
     """What a check says of each function of the crate, and its last line."""
-    out = subprocess.run(["rt", "check"], cwd=CRATE, capture_output=True, text=True).stdout
-    return dict(REPORT.findall(out)), "logic=" in out
+    run = subprocess.run(["rt", "check", "--allow-holes"], cwd=CRATE, capture_output=True, text=True)
+    out = run.stdout + run.stderr
+    return dict(REPORT.findall(out)), re.search("^(logic|holes)=", out, re.M) is not None
 
 
 def reports_of(edit, said):
@@ -70,7 +74,7 @@ def reports_of(edit, said):
 
 def is_refused(edit, said):
     """Whether the function has no proof, for a reason of its own."""
-    return any(why != "proved" and "it calls" not in why and "it waits" not in why for why in reports_of(edit, said))
+    return any(OWN.search(why) for why in reports_of(edit, said))
 
 
 def is_hidden(edit, said):
@@ -99,7 +103,7 @@ def alone(edit):
     said = tried([edit])
     if said is None:
         return "comes to no result"
-    return None if any(why != "proved" for why in said.values()) else "is not refused"
+    return None if any(why not in PROVED for why in said.values()) else "is not refused"
 
 
 def fits(edit, batch):
