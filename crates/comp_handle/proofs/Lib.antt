@@ -5,3 +5,4 @@ mod Crossing
 mod Dumps
 mod Lengths
 mod Refusing
+mod Counts

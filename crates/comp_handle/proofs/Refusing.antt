@@ -1,5 +1,5 @@
--- Why a plan is not flipped, and why a next heap is not made.
-use Rattle.std.proofs.Common.{◌≡◌, ℕ, ◌*◌, leb, List, [], Option, inl, inr, length, refl, subst}
+-- Why a next heap is not made.
+use Rattle.std.proofs.Common.{◌≡◌, ℕ, ◌*◌, leb, List, [], length, refl, subst}
 use Rattle.heap_layout.specs.Faults.{IsFirst}
 use Rattle.heap_layout.specs.Limits.{most_roots, most_words}
 use Rattle.heap_layout.specs.declared.fault.LayoutFault.{LayoutFault}
@@ -11,30 +11,20 @@ use Rattle.comp_cycles.proofs.Refusals.{size_refused, size_within}
 use Rattle.comp_crew.specs.Finishing.{finished_of, heap_of, IsEnded}
 use Rattle.comp_crew.specs.declared.finishing.Ended.{Ended as End}
 use Rattle.comp_handle.specs.Answers.{of_layout}
-use Rattle.comp_handle.specs.Crewing.{Flips, IsUnshared}
-use Rattle.comp_handle.specs.Turning.{NextOf}
+use Rattle.comp_handle.specs.Turning.{IsUnfollowed}
 use Rattle.comp_handle.specs.declared.answer.Answer.{Answer}
-use Rattle.comp_handle.specs.declared.kept.Kept.{Kept}
-use Rattle.comp_handle.specs.declared.kept.Kept.TheVariants as kept
 
--- where no share of a plan is had, no crew is made
-pub unshared : (name n fresh : ℕ) (plan old new : Option Kept) (a : Answer) → new ≡ old → IsUnshared n fresh plan a → Flips name n fresh plan old new a
-unshared name n fresh plan old new a same why = elim why [
-  | inl share ↦ inl (share.0, share.1, inr (same, share.2))
-  | inr none ↦ inr (same, none)
-]
-
--- a next heap that is too large
+-- it is too large
 pub too_large : (e : End) (marks : List ℕ) (fault : LayoutFault) (a : Answer) → IsEnded e → IsFirst (next_sizes (finished_of e) marks (roots_of (finished_of e))) fault → a ≡ of_layout fault
-    → NextOf marks e (kept.Ended e) a
+    → IsUnfollowed marks e a
 too_large e marks fault a ended first is =
     let f = finished_of e in
     let sizes = next_sizes f marks (roots_of f) in
     let own = edition_in f in
     let refused = subst (λ (list : List LayoutFault). IsRefusedFor list fault) (own_faults (heap_of e) f marks ended.end (roots_of f) refl) (size_refused (heap_of e) f marks (roots_of f) ended.end fault first) in
     let within = size_within sizes (leb (64 * length (pages_of f)) (most_words own)) (leb (length marks) (most_words own)) (leb (length (roots_of f)) (most_roots own)) fault first in
-    inr (refl, (fault, is, refused, within))
+    (fault, is, refused, within)
 
 -- no memory for the marks of one that is not
-pub unmarked : (e : End) (marks : List ℕ) (a : Answer) → next_sizes (finished_of e) marks (roots_of (finished_of e)) ≡ [] → a ≡ of_layout layout.OutOfMemory → NextOf marks e (kept.Ended e) a
-unmarked e marks a none is = inr (refl, (layout.OutOfMemory, is, tt, none))
+pub unmarked : (e : End) (marks : List ℕ) (a : Answer) → next_sizes (finished_of e) marks (roots_of (finished_of e)) ≡ [] → a ≡ of_layout layout.OutOfMemory → IsUnfollowed marks e a
+unmarked e marks a none is = (layout.OutOfMemory, is, tt, none)

@@ -6,42 +6,39 @@ use Rattle.comp_crew.specs.Refusal.{Refusal}
 use Rattle.comp_crew.specs.Refusal.TheVariants as refusals
 use Rattle.comp_handle.specs.declared.answer.Answer.{Answer}
 
--- the answer with this status and this value
+-- the answer with this status and these two numbers
+abbrev pub two : ℕ → ℕ → ℕ → Answer
+two status value other = record { status = status; other = other; value = value }
+
+-- the answer with this status and this number
 abbrev pub bare : ℕ → ℕ → Answer
-bare status value = record { status = status; value = value }
+bare status value = two status value 0
 
 -- it is done, and this is the result
 abbrev pub done : ℕ → Answer
 done value = bare 0 value
 
--- the handle is empty
-abbrev pub empty_handle : Answer
-empty_handle = bare 10 0
-
--- the handle keeps something else
-abbrev pub wrong_handle : Answer
-wrong_handle = bare 11 0
-
 -- the number at place i of a list; or there is none, and the answer has this status
 abbrev pub IsPlace : ℕ → ℕ → List ℕ → Answer → Type 0
 IsPlace status i list a = ((i < length list) × (a ≡ done (slice_index list i))) ⊎ ((length list ≤ i) × (a ≡ bare status i))
 
--- a call of a mutator was refused
-abbrev pub of_refusal : Refusal → Answer
-of_refusal (refusals.Busy p) = bare 1 p
-of_refusal refusals.Null = bare 2 0
-of_refusal (refusals.NotAStart a) = bare 3 a
-of_refusal refusals.NoSuchField = bare 4 0
-of_refusal refusals.NotInEdition = bare 5 0
-of_refusal refusals.ObjectTooLarge = bare 6 0
-of_refusal refusals.OutOfPages = bare 7 0
-of_refusal (refusals.JournalFull p) = bare 8 p
-of_refusal refusals.OutOfMemory = bare 9 0
+-- A call of a mutator was refused. The number is the field that was asked for, or the size of the object. No call that
+-- is exported is refused with 5: a header word says nothing that its edition lacks.
+abbrev pub of_refusal : ℕ → Refusal → Answer
+of_refusal n (refusals.Busy p) = bare 1 p
+of_refusal n refusals.Null = bare 2 0
+of_refusal n (refusals.NotAStart a) = bare 3 a
+of_refusal n refusals.NoSuchField = bare 4 n
+of_refusal n refusals.NotInEdition = bare 5 0
+of_refusal n refusals.ObjectTooLarge = bare 6 n
+of_refusal n refusals.OutOfPages = bare 7 0
+of_refusal n (refusals.JournalFull p) = bare 8 p
+of_refusal n refusals.OutOfMemory = bare 9 0
 
 -- the answer of a call of a mutator
-abbrev pub IsAnswer : Result ℕ Refusal → Answer → Type 0
-IsAnswer (Ok value) a = a ≡ done value
-IsAnswer (Err refusal) a = a ≡ of_refusal refusal
+abbrev pub IsAnswer : ℕ → Result ℕ Refusal → Answer → Type 0
+IsAnswer n (Ok value) a = a ≡ done value
+IsAnswer n (Err refusal) a = a ≡ of_refusal n refusal
 
 -- a heap was not accepted
 abbrev pub of_layout : LayoutFault → Answer

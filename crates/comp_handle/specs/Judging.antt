@@ -1,5 +1,5 @@
 -- The audit of a dump, for the heap of a plan.
-use Rattle.std.specs.Prelude.{◌≡◌, ℕ, ◌⊎◌, true, List, [], Option, None, Some}
+use Rattle.std.specs.Prelude.{◌≡◌, ℕ, ◌⊎◌, true, min, List, []}
 use Rattle.heap_layout.specs.Faults.{IsFirst}
 use Rattle.heap_layout.specs.Heap.{Heap}
 use Rattle.comp_dump.specs.Dumped.{Dumped, IsStored}
@@ -10,16 +10,14 @@ use Rattle.comp_dump.specs.declared.fault.AuditFault.TheVariants as audit
 use Rattle.comp_dump.specs.declared.fault.DumpFault.{DumpFault}
 use Rattle.comp_dump.specs.declared.fault.DumpFault.TheVariants as dump
 use Rattle.comp_audit.specs.Judged.{faults}
-use Rattle.comp_handle.specs.Answers.{bare, done, empty_handle, wrong_handle}
+use Rattle.comp_handle.specs.Answers.{bare, done, two}
 use Rattle.comp_handle.specs.declared.answer.Answer.{Answer}
-use Rattle.comp_handle.specs.declared.kept.Kept.{Kept}
-use Rattle.comp_handle.specs.declared.kept.Kept.TheVariants as kept
 
--- a fault of the audit; of a bad entry the page alone is answered
+-- a fault of the audit; of a bad entry the page, and the number of the entry, of which a page has at most 1,024
 abbrev pub of_audit : AuditFault → Answer
 of_audit (audit.WrongWord a) = bare 65 a
 of_audit (audit.LooseReference a) = bare 66 a
-of_audit (audit.BadEntry p i) = bare 67 p
+of_audit (audit.BadEntry p i) = two 67 p (min i 4294967295)
 of_audit (audit.StampRepeated stamp) = bare 68 stamp
 of_audit (audit.StampMissing stamp) = bare 69 stamp
 of_audit audit.WrongTotal = bare 70 0
@@ -45,13 +43,3 @@ abbrev pub JudgesBytes : List ℕ → Heap → Answer → Type 0
 JudgesBytes bytes heap a =
     ((dumped : Dumped) × (bytes ≡ dump_bytes dumped) × IsStored dumped × Judges (faults heap dumped) dumped.total a)
     ⊎ ((fault : DumpFault) × Fails fault (read_whole_by true bytes) × (a ≡ of_dump fault))
-
--- P of the heap whose plan a handle keeps; or it keeps none
-abbrev pub HasPlan : (Heap → Answer → Type 0) → Option Kept → Answer → Type 0
-HasPlan P None a = a ≡ empty_handle
-HasPlan P (Some (kept.Plan plan)) a = P plan.value a
-HasPlan P (Some kept.Nothing) a = a ≡ wrong_handle
-HasPlan P (Some (kept.Heap heap)) a = a ≡ wrong_handle
-HasPlan P (Some (kept.Crew bench)) a = a ≡ wrong_handle
-HasPlan P (Some (kept.Mutator m)) a = a ≡ wrong_handle
-HasPlan P (Some (kept.Ended e)) a = a ≡ wrong_handle

@@ -18,21 +18,3 @@ IsKept (Ended e) = IsEnded e
 abbrev pub KeepsIf : Bool → Kept → Option Kept → Option Kept → Type 0
 KeepsIf true kept old new = new ≡ Some kept
 KeepsIf false kept old new = new ≡ old
-
--- it keeps no crew
-abbrev pub IsNoCrew : Kept → Type 0
-IsNoCrew (Crew bench) = ⊥
-IsNoCrew Nothing = Unit {0}
-IsNoCrew (Heap heap) = Unit {0}
-IsNoCrew (Plan plan) = Unit {0}
-IsNoCrew (Mutator m) = Unit {0}
-IsNoCrew (Ended e) = Unit {0}
-
--- it keeps no mutator
-abbrev pub IsNoMutator : Kept → Type 0
-IsNoMutator (Mutator m) = ⊥
-IsNoMutator Nothing = Unit {0}
-IsNoMutator (Heap heap) = Unit {0}
-IsNoMutator (Plan plan) = Unit {0}
-IsNoMutator (Crew bench) = Unit {0}
-IsNoMutator (Ended e) = Unit {0}

@@ -1,6 +1,8 @@
 pub mod Keeping
 pub mod Held
 pub mod Answers
+pub mod Kinds
+pub mod Facts
 pub mod Calling
 pub mod Making
 pub mod Turning

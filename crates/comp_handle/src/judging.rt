@@ -4,11 +4,12 @@ ghost use Rattle.comp_audit.specs.Judged.{faults};
 ghost use Rattle.comp_dump.specs.Dumped.{IsStored};
 ghost use Rattle.comp_dump.specs.DumpEncoding.{dump_bytes};
 ghost use Rattle.comp_dump.specs.DumpReading.{read_whole_by, Fails};
-ghost use Rattle.comp_handle.specs.Judging.{of_audit, of_dump, HasPlan, JudgesBytes};
+ghost use Rattle.comp_handle.specs.Judging.{of_audit, of_dump, JudgesBytes};
+ghost use Rattle.comp_handle.specs.Kinds.{plan_in, Asks};
 
 use crate::answer::Answer;
 use crate::handle::Handle;
-use crate::kept::Kept;
+use crate::kinds::as_plan;
 use comp_audit::{AuditFault, Dump, DumpFault, Verdict, audit, read_large_dump};
 use heap_layout::Counted;
 use page_plan::Plan;
@@ -22,7 +23,7 @@ fn found(fault: AuditFault) -> Answer
     match fault {
         AuditFault::WrongWord(a) => Answer::bare(65, a),
         AuditFault::LooseReference(a) => Answer::bare(66, a),
-        AuditFault::BadEntry(p, _) => Answer::bare(67, p),
+        AuditFault::BadEntry(p, i) => Answer::two(67, p, i.min(4_294_967_295) as u32),
         AuditFault::StampRepeated(stamp) => Answer::bare(68, stamp),
         AuditFault::StampMissing(stamp) => Answer::bare(69, stamp),
         AuditFault::WrongTotal => Answer::bare(70, 0),
@@ -81,14 +82,14 @@ fn judge_shared(alloc: Global, plan: &Arc<Plan>, bytes: &[u8]) -> Answer
 /// if a compaction by this plan can have left the dump; else the first fault.
 pub fn judge_dump(alloc: Global, h: &mut Handle, bytes: &[u8]) -> Answer
     ensures same { h.new.kept ≡ h.old.kept }
-    ensures judges { HasPlan (JudgesBytes bytes.now) h.old.kept result }
+    ensures judges { Asks 0 plan_in (JudgesBytes bytes.now) (Unit {0}) h.old.kept result }
 {
     let Some(kept) = h.take(alloc) else {
         return Answer::bare(10, 0);
     };
-    let answer = match kept.as_ref() {
-        Kept::Plan(plan) => judge_shared(alloc, plan, bytes),
-        _ => Answer::bare(11, 0),
+    let answer = match as_plan(kept.as_ref()) {
+        Some(plan) => judge_shared(alloc, plan, bytes),
+        None => Answer::bare(255, 0),
     };
     h.put_back(kept);
     answer
