@@ -6,3 +6,4 @@ mod Dumps
 mod Lengths
 mod Refusing
 mod Counts
+mod Turned
