@@ -60,3 +60,9 @@ module _ {X : Type 0} (find : Option Kept → Option X) (Makes : X → Option Ke
     -- it stays
     pub kept_stays : (x : X) → find (Some k) ≡ Some x → full ≡ false → goes ≡ false → l ≡ k → Stays x a → TurnsKept find Makes Stays full k l goes a
     kept_stays x at is stays same why = subst (λ (o : Option X). TurnsAt o full k l goes a) (sym at) (inr (is, inr (stays, same, why)))
+
+  -- it goes or stays, as it is told
+  pub kept_either : (full : Bool) (k l : Kept) (goes : Bool) (a : Answer) (x : X) → find (Some k) ≡ Some x → full ≡ false → (goes ≡ true → Makes x (Some l) a) → (goes ≡ false → (l ≡ k) × Stays x a)
+      → TurnsKept find Makes Stays full k l goes a
+  kept_either full k l true a x at is yes no = kept_gone full k l true a x at is refl (yes refl)
+  kept_either full k l false a x at is yes no = kept_stays full k l false a x at is refl (no refl).0 (no refl).1
