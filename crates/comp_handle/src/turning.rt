@@ -52,8 +52,8 @@ fn planned(alloc: Global, kept: Kept, full: bool) -> Turned
     }
 }
 
-/// Plans the heap that a handle keeps; another one, which was empty, keeps the plan then, and that of the heap is empty.
-/// If memory runs out, both stay as they were.
+/// Plans the heap that a handle keeps; another one, which was empty, keeps the plan then, and that of the heap is
+/// empty. If memory runs out, both stay as they were.
 pub fn plan_heap(alloc: Global, heap: &mut Handle, plan: &mut Handle) -> Answer
     ensures { Turns heap_in Plans IsUnplanned heap.old.kept heap.new.kept plan.old.kept plan.new.kept result }
 {
@@ -162,9 +162,9 @@ fn followed(alloc: Global, kept: Kept, full: bool, marks: &[u32]) -> Turned
 }
 
 /// Makes the heap with which the next cycle begins of the finished heap that a handle keeps; another one, which was
-/// empty, keeps the new heap then, and that of the finished one is empty. `marks` are the rising indices of the words at
-/// which the marked objects start. If it is refused, both stay as they were. A next heap that is too large is refused
-/// before memory is asked for.
+/// empty, keeps the new heap then, and that of the finished one is empty. `marks` are the rising indices of the words
+/// at which the marked objects start. If it is refused, both stay as they were. A next heap that is too large is
+/// refused before memory is asked for.
 pub fn follow(alloc: Global, end: &mut Handle, marks: &[u32], heap: &mut Handle) -> Answer
     ensures { Turns end_in (Follows marks.now) (IsUnfollowed marks.now) end.old.kept end.new.kept heap.old.kept heap.new.kept result }
 {
