@@ -1,4 +1,5 @@
-//! One heap that threads mark and survey a thousand times: 125 times for each number of threads from one to eight.
+//! One heap that threads mark and survey a thousand times: 225 times for each number of threads up to four, and 25 times
+//! for each from five to eight, which wait for a processor.
 use crate::expected::{expect_eq, expect_so};
 use heap_layout::{Edition, FROM_SPACE as F, Header};
 use reachability::{reachable_marks, reachable_marks_by_threads};
@@ -8,7 +9,9 @@ use std::thread::Threads;
 use stopped_heap::Survey;
 use test_support::At;
 
-const TIMES: usize = 125;
+const MANY: usize = 225;
+
+const FEW: usize = 25;
 
 // Threads mark where 8,192 objects wait, and survey from 65,536 words on. So many roots lead to as many objects; 10,000
 // objects are there, of 7 words each, and the first 9,500 are reached.
@@ -79,6 +82,7 @@ fn mark_often(
     rt: &(impl Abort + Threads + Sync),
     alloc: Global,
     threads: usize,
+    times: usize,
 ) -> Result<usize, AllocError> {
     let words = objects(alloc)?;
     let roots = roots(alloc)?;
@@ -92,7 +96,7 @@ fn mark_often(
         REACHED as usize,
     );
     let mut refused = 0usize;
-    for _ in 0..TIMES {
+    for _ in 0..times {
         if mark_again(rt, alloc, threads, &words, &roots, &marks).is_err() {
             refused = refused.saturating_add(1);
         }
@@ -101,48 +105,48 @@ fn mark_often(
 }
 
 // A run of the tests may refuse one allocation.
-fn expect_often(rt: &(impl Abort + AllocGlobal + Threads + Sync), threads: usize) {
-    if let Ok(refused) = mark_often(rt, rt.alloc(), threads) {
+fn expect_often(rt: &(impl Abort + AllocGlobal + Threads + Sync), threads: usize, times: usize) {
+    if let Ok(refused) = mark_often(rt, rt.alloc(), threads, times) {
         expect_so(rt, At::new("refused", refused), refused <= 1);
     }
 }
 
 #[test]
 fn one_thread_marks_the_same_each_time(rt: HostRuntime) {
-    expect_often(&rt, 1);
+    expect_often(&rt, 1, MANY);
 }
 
 #[test]
 fn two_threads_mark_the_same_each_time(rt: HostRuntime) {
-    expect_often(&rt, 2);
+    expect_often(&rt, 2, MANY);
 }
 
 #[test]
 fn three_threads_mark_the_same_each_time(rt: HostRuntime) {
-    expect_often(&rt, 3);
+    expect_often(&rt, 3, MANY);
 }
 
 #[test]
 fn four_threads_mark_the_same_each_time(rt: HostRuntime) {
-    expect_often(&rt, 4);
+    expect_often(&rt, 4, MANY);
 }
 
 #[test]
 fn five_threads_mark_the_same_each_time(rt: HostRuntime) {
-    expect_often(&rt, 5);
+    expect_often(&rt, 5, FEW);
 }
 
 #[test]
 fn six_threads_mark_the_same_each_time(rt: HostRuntime) {
-    expect_often(&rt, 6);
+    expect_often(&rt, 6, FEW);
 }
 
 #[test]
 fn seven_threads_mark_the_same_each_time(rt: HostRuntime) {
-    expect_often(&rt, 7);
+    expect_often(&rt, 7, FEW);
 }
 
 #[test]
 fn eight_threads_mark_the_same_each_time(rt: HostRuntime) {
-    expect_often(&rt, 8);
+    expect_often(&rt, 8, FEW);
 }
