@@ -84,8 +84,8 @@ fn expect_same(
 
 #[test]
 fn threads_find_what_one_finds(rt: HostRuntime) {
-    for seed in 0..12u64 {
-        let objects = 40 + 37 * seed;
+    for seed in 0..3u64 {
+        let objects = 40 + 149 * seed;
         let words = scattered(&rt, objects, seed, false);
         for workers in 0..9 {
             for wide in [1, 7, 8_192] {
@@ -120,8 +120,8 @@ fn one_heap_is_surveyed_many_times(rt: HostRuntime) {
 
 #[test]
 fn a_list_is_followed_to_its_end(rt: HostRuntime) {
-    let words = list(&rt, 2_000);
-    let roots = [F + 3_998];
+    let words = list(&rt, 500);
+    let roots = [F + 998];
     for workers in [1, 2, 5] {
         for wide in [1, 2] {
             expect_same(&rt, Edition::Three, &words, &roots, workers, wide);
