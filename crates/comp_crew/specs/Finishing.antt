@@ -1,11 +1,12 @@
 -- The end of a crew.
-use Rattle.std.specs.Prelude.{◌≡◌, ◌≤◌, List, map}
+use Rattle.std.specs.Prelude.{◌≡◌, ℕ, ◌≤◌, List, [], map}
 use Rattle.heap_layout.specs.Heap.{Heap}
 use Rattle.cell_steps.specs.Setup.{Setup}
-use Rattle.comp_cycles.specs.Finishes.{IsFinished, IsOfFlip}
+use Rattle.comp_cycles.specs.Finishes.{journals_of, IsFinished, IsOfFlip}
 use Rattle.comp_cycles.specs.declared.finished.Finished.{Finished}
 use Rattle.comp_cycles.specs.Ends.{IsEndOf}
 use Rattle.comp_cycles.specs.Ends as ends
+use Rattle.comp_cycles.specs.NextHeap.{next_heap}
 use Rattle.comp_hand.specs.Hands.{pass_of}
 use Rattle.comp_hand.specs.declared.hand.Hand.{Hand}
 use Rattle.comp_crew.specs.Benches.{hands_on, setup_on}
@@ -53,3 +54,7 @@ abbrev pub IsUnfinishedFor : Bench → FinishFault → Type 0
 IsUnfinishedFor bench (MutatorMissing k) = IsLeastMissing (setup_on bench).mutators (hands_on bench) k
 IsUnfinishedFor bench OutOfMemory = IsWhole bench
 IsUnfinishedFor bench StillShared = IsWhole bench
+
+-- the words of all pages as those of the next heap, which depend on no root or mark
+abbrev pub rest_words : Ended → List ℕ
+rest_words e = (next_heap (setup_at_end e) (journals_of e.finished) [] []).words

@@ -1,5 +1,5 @@
 //! A crew at rest: mutators are taken out of it, and handed back.
-ghost use Rattle.std.specs.Prelude.{◌≡◌, ◌≤◌, vec_capacity, IfErr, IfOk, OnErr, OnOk};
+ghost use Rattle.std.specs.Prelude.{◌≡◌, ◌↔◌, ◌≤◌, [], true, vec_capacity, IfErr, IfOk, OnErr, OnOk};
 ghost use Rattle.page_cells.specs.CellViews.{setup_of};
 
 use crate::crew::Crew;
@@ -17,8 +17,15 @@ pub struct Bench {
 }
 
 impl Bench {
-    ghost use Rattle.comp_crew.specs.Benches.{IsBench, IsGiven, IsStranger, IsTaken, IsToldApart};
+    ghost use Rattle.comp_crew.specs.Benches.{hands_on, IsBench, IsGiven, IsStranger, IsTaken, IsToldApart};
     ghost use Rattle.comp_crew.specs.Members.{IsMember};
+
+    /// Whether no mutator is left.
+    pub fn is_empty(&self) -> bool
+        ensures { result ≡ true ↔ hands_on self.now ≡ [] }
+    {
+        self.hands.is_empty()
+    }
 
     /// Takes out the mutator that was handed back last; after a flip, the one with the greatest number. None if there
     /// is no mutator left. Err if out of memory. Then the crew is as it was.

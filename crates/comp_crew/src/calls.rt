@@ -1,11 +1,11 @@
 //! Allocations, and calls on whole pages. None of them waits or retries: the answer is `Busy` if another member won a
 //! compare-and-swap. A refused call wrote no entry; but it may have built its page, unless it is `try_touch`.
 ghost use Rattle.std.specs.Prelude.{◌≡◌, ℕ, ◌+◌, ◌<◌, Ok, IfErr, IfOk, IsErrOf, OnErr, OnOk};
-ghost use Rattle.heap_layout.specs.Header.{header_with};
+ghost use Rattle.heap_layout.specs.Header.{header_of, header_with, size_of};
 ghost use Rattle.cell_steps.specs.Setup as setups;
 ghost use Rattle.cell_steps.specs.Passes.{builds_of, did, lost, HasSeenBuilt};
 ghost use Rattle.page_cells.specs.Calls.{Grows, WroteNothing};
-ghost use Rattle.comp_access.specs.Allocations.{asked_size, AllocatesAsked, AskedRefused};
+ghost use Rattle.comp_access.specs.Allocations.{asked_size, Allocates, AllocatesAsked, AllocationRefused, AskedRefused};
 ghost use Rattle.comp_access.specs.Copies.{builds_after, CopyRefused, IsCopy, PageRefused};
 ghost use Rattle.comp_access.specs.Reads.{KnowsBuilt, MayBuild};
 ghost use Rattle.comp_access.specs.declared.pages.Touched.TheVariants.{AlreadyBuilt};
@@ -16,6 +16,7 @@ ghost use Rattle.comp_crew.specs.Members.{crew_of, made_of, pass_of, setup_of, I
 use crate::member::Member;
 use comp_access::{PageCopy, Refusal, Touched};
 use comp_hand::asked_header;
+use heap_layout::Header;
 use std::alloc::Global;
 
 impl Member {
@@ -44,6 +45,25 @@ impl Member {
     {
         let Member { crew, hand } = self;
         let header = asked_header(&crew.cells, refs, weak, data_words, tag)?;
+        hand.alloc_with(alloc, &crew.cells, header)
+    }
+
+    /// Makes an object whose header is this word, of null references, null weak words and zero data words, and answers
+    /// its address. The object follows the others on the lowest of the member's own fresh pages that has room.
+    #[inline(always)]
+    pub fn try_alloc_word(&mut self, alloc: Global, word: u64) -> Result<u64, Refusal>
+        requires { IsMember self.old }
+        ensures of { IsMember self.new }
+        ensures crew { crew_of self.new ≡ crew_of self.old }
+        ensures made { OnOk result (made_of self.new ≡ made_of self.old + size_of (header_of (setup_of self.old).heap.edition word)) }
+        ensures grows { Grows (pass_of self.old) (pass_of self.new) }
+        ensures alone { (setup_of self.old).mutators ≡ 1 → (q : ℕ) → IsErrOf result (Busy q) → ⊥ }
+        ensures allocated { IfOk result (Allocates (setup_of self.old) (pass_of self.old) (pass_of self.new) (header_of (setup_of self.old).heap.edition word)) }
+        ensures did { OnErr result ((did (pass_of self.new) ≡ did (pass_of self.old)) × (made_of self.new ≡ made_of self.old)) }
+        ensures refused { IfErr result (AllocationRefused (setup_of self.old) (pass_of self.old) (pass_of self.new) (size_of (header_of (setup_of self.old).heap.edition word))) }
+    {
+        let Member { crew, hand } = self;
+        let header = Header::from_word_of(crew.cells.edition(), word);
         hand.alloc_with(alloc, &crew.cells, header)
     }
 

@@ -6,6 +6,7 @@ ghost use Rattle.comp_cycles.specs.Forwarded.{AreForwarded};
 
 use crate::crew::Crew;
 use comp_hand::Hand;
+use heap_layout::Edition;
 use std::sync::Arc;
 
 /// A mutator of a crew: a reader and writer of a heap that is being compacted, with a share of what the crew has.
@@ -31,6 +32,20 @@ impl Member {
         ensures { result ≡ name_of self.now }
     {
         self.crew.name
+    }
+
+    /// The edition of the heap.
+    pub fn edition(&self) -> Edition
+        ensures { result ≡ (members.setup_of self.now).heap.edition }
+    {
+        self.crew.cells.edition()
+    }
+
+    /// How many mutators the crew has.
+    pub fn mutators(&self) -> u8
+        ensures { result ≡ (members.setup_of self.now).mutators }
+    {
+        self.crew.mutators
     }
 
     /// The forwarded roots of the heap, in order.
