@@ -1,22 +1,42 @@
 -- What a call by a handle does, by what the handle keeps.
-use Rattle.std.proofs.Common.{◌≡◌, Option, Some, refl, sym, subst}
+use Rattle.std.proofs.Common.{◌≡◌, ℕ, List, Option, Some, refl, sym, subst}
 use Rattle.comp_crew.specs.declared.member.Member.{Member}
-use Rattle.comp_handle.specs.Answers.{wrong_handle}
+use Rattle.comp_handle.specs.Answers.{bare}
 use Rattle.comp_handle.specs.Calling.{Calls}
+use Rattle.comp_handle.specs.Kinds.{mutator_in, Asks}
+use Rattle.comp_handle.specs.Seeing.{CopiesSeen, SeesBy}
 use Rattle.comp_handle.specs.declared.answer.Answer.{Answer}
 use Rattle.comp_handle.specs.declared.kept.Kept.{Kept}
-use Rattle.comp_handle.specs.declared.kept.Kept.TheVariants.{Nothing, Heap, Plan, Crew, Mutator, Ended}
+use Rattle.comp_handle.specs.declared.kept.Kept.TheVariants.{Nothing, Heap, Plan, Crew, Mutator, Ended, Survey, Tables, Job}
 
-module _ (P : Member → Member → Answer → Type 0) (old new : Option Kept) (a : Answer) where
+module _ (Q : Member → Answer → Type 0) (R : Type 0) (old : Option Kept) (a : Answer) where
   -- it has a mutator
-  pub called : (m n : Member) (b : Answer) → old ≡ Some (Mutator m) → new ≡ Some (Mutator n) → a ≡ b → P m n b → Calls P old new a
-  called m n b e f g h = subst (λ (o : Option Kept). Calls P o new a) (sym e) (n, f, subst (λ (x : Answer). P m n x) (sym g) h)
+  pub asked : (m : Member) (b : Answer) → old ≡ Some (Mutator m) → a ≡ b → Q m b → Asks 0 mutator_in Q R old a
+  asked m b e g h = subst (λ (o : Option Kept). Asks 0 mutator_in Q R o a) (sym e) (subst (λ (x : Answer). Q m x) (sym g) h)
 
   -- it keeps something else
-  pub not_called : (k : Kept) → ((m : Member) → k ≡ Mutator m → ⊥) → old ≡ Some k → new ≡ Some k → a ≡ wrong_handle → Calls P old new a
-  not_called Nothing never e f g = subst (λ (o : Option Kept). Calls P o new a) (sym e) (f, g)
-  not_called (Heap heap) never e f g = subst (λ (o : Option Kept). Calls P o new a) (sym e) (f, g)
-  not_called (Plan plan) never e f g = subst (λ (o : Option Kept). Calls P o new a) (sym e) (f, g)
-  not_called (Crew bench) never e f g = subst (λ (o : Option Kept). Calls P o new a) (sym e) (f, g)
-  not_called (Mutator m) never e f g = absurd (never m refl)
-  not_called (Ended ended) never e f g = subst (λ (o : Option Kept). Calls P o new a) (sym e) (f, g)
+  pub not_asked : (k : Kept) → ((m : Member) → k ≡ Mutator m → ⊥) → old ≡ Some k → a ≡ bare 255 0 → R → Asks 0 mutator_in Q R old a
+  not_asked Nothing never e g r = subst (λ (o : Option Kept). Asks 0 mutator_in Q R o a) (sym e) (g, r)
+  not_asked (Heap heap) never e g r = subst (λ (o : Option Kept). Asks 0 mutator_in Q R o a) (sym e) (g, r)
+  not_asked (Plan plan) never e g r = subst (λ (o : Option Kept). Asks 0 mutator_in Q R o a) (sym e) (g, r)
+  not_asked (Crew bench) never e g r = subst (λ (o : Option Kept). Asks 0 mutator_in Q R o a) (sym e) (g, r)
+  not_asked (Mutator m) never e g r = absurd (never m refl)
+  not_asked (Ended ended) never e g r = subst (λ (o : Option Kept). Asks 0 mutator_in Q R o a) (sym e) (g, r)
+  not_asked (Survey survey) never e g r = subst (λ (o : Option Kept). Asks 0 mutator_in Q R o a) (sym e) (g, r)
+  not_asked (Tables tables) never e g r = subst (λ (o : Option Kept). Asks 0 mutator_in Q R o a) (sym e) (g, r)
+  not_asked (Job job) never e g r = subst (λ (o : Option Kept). Asks 0 mutator_in Q R o a) (sym e) (g, r)
+
+module _ (P : Member → Member → Answer → Type 0) (old new : Option Kept) (a : Answer) where
+  pub called : (m n : Member) (b : Answer) → old ≡ Some (Mutator m) → new ≡ Some (Mutator n) → a ≡ b → P m n b → Calls P old new a
+  called m n b e f g h = asked (λ x y. (z : Member) × (new ≡ Some (Mutator z)) × P x z y) (new ≡ old) old a m b e g (n, f, h)
+
+  pub not_called : (k : Kept) → ((m : Member) → k ≡ Mutator m → ⊥) → old ≡ Some k → new ≡ Some k → a ≡ bare 255 0 → Calls P old new a
+  not_called k never e f g = not_asked (λ x y. (z : Member) × (new ≡ Some (Mutator z)) × P x z y) (new ≡ old) old a k never e g (subst (λ (o : Option Kept). new ≡ o) (sym e) f)
+
+module _ (p : ℕ) (before after : List ℕ) (old new : Option Kept) (a : Answer) where
+  pub saw : (m n : Member) (b : Answer) → old ≡ Some (Mutator m) → new ≡ Some (Mutator n) → a ≡ b → CopiesSeen p before after m n b → SeesBy p before after old new a
+  saw m n b e f g h = asked (λ x y. (z : Member) × (new ≡ Some (Mutator z)) × CopiesSeen p before after x z y) ((new ≡ old) × (after ≡ before)) old a m b e g (n, f, h)
+
+  pub not_seen : (k : Kept) → ((m : Member) → k ≡ Mutator m → ⊥) → old ≡ Some k → new ≡ Some k → a ≡ bare 255 0 → after ≡ before → SeesBy p before after old new a
+  not_seen k never e f g same =
+      not_asked (λ x y. (z : Member) × (new ≡ Some (Mutator z)) × CopiesSeen p before after x z y) ((new ≡ old) × (after ≡ before)) old a k never e g (subst (λ (o : Option Kept). new ≡ o) (sym e) f, same)

@@ -5,3 +5,8 @@ mod Crossing
 mod Dumps
 mod Lengths
 mod Refusing
+mod Counts
+mod Rests
+mod Turned
+mod Joined
+mod Taken

@@ -1,40 +1,28 @@
--- Why a plan is not flipped, and why a next heap is not made.
-use Rattle.std.proofs.Common.{◌≡◌, ℕ, ◌*◌, leb, List, [], Option, inl, inr, length, refl, subst}
+-- Why a next heap is not made.
+use Rattle.std.proofs.Common.{◌≡◌, ℕ, ◌*◌, leb, List, [], length}
 use Rattle.heap_layout.specs.Faults.{IsFirst}
 use Rattle.heap_layout.specs.Limits.{most_roots, most_words}
 use Rattle.heap_layout.specs.declared.fault.LayoutFault.{LayoutFault}
 use Rattle.heap_layout.specs.declared.fault.LayoutFault.TheVariants as layout
-use Rattle.comp_cycles.specs.Ends.{next_sizes, IsRefusedFor}
-use Rattle.comp_cycles.specs.Finishes.{edition_in, pages_of, roots_of}
-use Rattle.comp_cycles.proofs.Calls.{own_faults}
+use Rattle.comp_cycles.specs.Ends.{next_sizes}
+use Rattle.comp_cycles.specs.Finishes.{edition_in, pages_of}
 use Rattle.comp_cycles.proofs.Refusals.{size_refused, size_within}
 use Rattle.comp_crew.specs.Finishing.{finished_of, heap_of, IsEnded}
 use Rattle.comp_crew.specs.declared.finishing.Ended.{Ended as End}
 use Rattle.comp_handle.specs.Answers.{of_layout}
-use Rattle.comp_handle.specs.Crewing.{Flips, IsUnshared}
-use Rattle.comp_handle.specs.Turning.{NextOf}
+use Rattle.comp_handle.specs.Turning.{IsUnfollowed}
 use Rattle.comp_handle.specs.declared.answer.Answer.{Answer}
-use Rattle.comp_handle.specs.declared.kept.Kept.{Kept}
-use Rattle.comp_handle.specs.declared.kept.Kept.TheVariants as kept
 
--- where no share of a plan is had, no crew is made
-pub unshared : (name n fresh : ℕ) (plan old new : Option Kept) (a : Answer) → new ≡ old → IsUnshared n fresh plan a → Flips name n fresh plan old new a
-unshared name n fresh plan old new a same why = elim why [
-  | inl share ↦ inl (share.0, share.1, inr (same, share.2))
-  | inr none ↦ inr (same, none)
-]
-
--- a next heap that is too large
-pub too_large : (e : End) (marks : List ℕ) (fault : LayoutFault) (a : Answer) → IsEnded e → IsFirst (next_sizes (finished_of e) marks (roots_of (finished_of e))) fault → a ≡ of_layout fault
-    → NextOf marks e (kept.Ended e) a
-too_large e marks fault a ended first is =
+-- it is too large
+pub too_large : (e : End) (roots marks : List ℕ) (fault : LayoutFault) (a : Answer) → IsEnded e → IsFirst (next_sizes (finished_of e) marks roots) fault → a ≡ of_layout fault
+    → IsUnfollowed roots marks e a
+too_large e roots marks fault a ended first is =
     let f = finished_of e in
-    let sizes = next_sizes f marks (roots_of f) in
     let own = edition_in f in
-    let refused = subst (λ (list : List LayoutFault). IsRefusedFor list fault) (own_faults (heap_of e) f marks ended.end (roots_of f) refl) (size_refused (heap_of e) f marks (roots_of f) ended.end fault first) in
-    let within = size_within sizes (leb (64 * length (pages_of f)) (most_words own)) (leb (length marks) (most_words own)) (leb (length (roots_of f)) (most_roots own)) fault first in
-    inr (refl, (fault, is, refused, within))
+    let refused = size_refused (heap_of e) f marks roots ended.end fault first in
+    let within = size_within (next_sizes f marks roots) (leb (64 * length (pages_of f)) (most_words own)) (leb (length marks) (most_words own)) (leb (length roots) (most_roots own)) fault first in
+    (fault, is, refused, within)
 
 -- no memory for the marks of one that is not
-pub unmarked : (e : End) (marks : List ℕ) (a : Answer) → next_sizes (finished_of e) marks (roots_of (finished_of e)) ≡ [] → a ≡ of_layout layout.OutOfMemory → NextOf marks e (kept.Ended e) a
-unmarked e marks a none is = inr (refl, (layout.OutOfMemory, is, tt, none))
+pub unmarked : (e : End) (roots marks : List ℕ) (a : Answer) → next_sizes (finished_of e) marks roots ≡ [] → a ≡ of_layout layout.OutOfMemory → IsUnfollowed roots marks e a
+unmarked e roots marks a none is = (layout.OutOfMemory, is, tt, none)

@@ -1,30 +1,30 @@
 -- What a call of a mutator does, as C sees it.
-use Rattle.std.specs.Prelude.{◌≡◌, ℕ, ◌+◌, ◌<◌, ◌≤◌, ◌⊎◌, min, List, length, slice_index, Option, None, Some, Result, Ok, Err, IfOk, IfErr, IsErrOf, OnOk, OnErr}
-use Rattle.heap_layout.specs.Header.{header_with}
+use Rattle.std.specs.Prelude.{◌≡◌, ℕ, ◌+◌, ◌<◌, ◌≤◌, ◌⊎◌, List, length, slice_index, Option, Some, Result, Ok, Err, IfOk, IfErr, IsErrOf, OnOk, OnErr}
+use Rattle.heap_layout.specs.Header.{header_of, size_of, Head}
 use Rattle.heap_layout.specs.declared.kind.Kind.{Kind}
 use Rattle.heap_layout.specs.declared.kind.Kind.TheVariants as kinds
-use Rattle.comp_crew.specs.Allocations.{asked_size, AllocatesAsked, AskedRefused}
+use Rattle.comp_crew.specs.Allocations.{Allocates, AllocationRefused}
 use Rattle.comp_crew.specs.Calls.{Grows, WroteNothing}
 use Rattle.comp_crew.specs.Copies.{builds_after, PageRefused}
 use Rattle.comp_crew.specs.Forwarded.{AreForwarded}
 use Rattle.comp_crew.specs.Members.{crew_of, made_of, pass_of, setup_of}
-use Rattle.comp_crew.specs.Passes.{builds_of, did, edition_of, lost, number_of, HasSeenBuilt}
+use Rattle.comp_crew.specs.Passes.{builds_of, did, lost, HasSeenBuilt}
 use Rattle.comp_crew.specs.ReadCalls.{IsRead}
 use Rattle.comp_crew.specs.Reads.{IsNeverBusy, KnowsBuilt}
 use Rattle.comp_crew.specs.Setup.{pages}
-use Rattle.comp_crew.specs.Shares.{allocated}
 use Rattle.comp_crew.specs.WriteCalls.{IsWrite}
 use Rattle.comp_crew.specs.declared.member.Member.{Member}
 use Rattle.comp_crew.specs.Touched.{Touched}
 use Rattle.comp_crew.specs.Touched.TheVariants.{Built, AlreadyBuilt}
 use Rattle.comp_crew.specs.Refusal.{Refusal}
 use Rattle.comp_crew.specs.Refusal.TheVariants.{Busy, OutOfMemory}
-use Rattle.comp_handle.specs.Answers.{bare, done, empty_handle, of_refusal, wrong_handle, IsAnswer, IsPlace}
+use Rattle.comp_handle.specs.Answers.{bare, done, of_refusal, IsAnswer, IsPlace}
+use Rattle.comp_handle.specs.Kinds.{mutator_in, Asks}
 use Rattle.comp_handle.specs.declared.answer.Answer.{Answer}
 use Rattle.comp_handle.specs.declared.calling.Call.{Call}
-use Rattle.comp_handle.specs.declared.calling.Call.TheVariants.{ReadRef, ReadWeak, ReadData, WriteRef, WriteWeak, WriteData, Alloc, Touch, Root, Pages, CompactedPages, Number, BuildCount, Build, EntryCount, MadeWords}
+use Rattle.comp_handle.specs.declared.calling.Call.TheVariants.{ReadRef, ReadWeak, ReadData, WriteRef, WriteWeak, WriteData, Alloc, Touch, Root, Build}
 use Rattle.comp_handle.specs.declared.kept.Kept.{Kept}
-use Rattle.comp_handle.specs.declared.kept.Kept.TheVariants.{Nothing, Heap, Plan, Crew, Mutator, Ended}
+use Rattle.comp_handle.specs.declared.kept.Kept.TheVariants.{Mutator}
 
 -- a mutator that is alone is never refused a busy page
 abbrev pub IsNeverBusyAlone : {T : Type 0} → Member → Result T Refusal → Type 0
@@ -42,15 +42,19 @@ pub record WritesField (kind : Kind) (object field value : ℕ) (m n : Member) (
   pub made : made_of n ≡ made_of m
   pub write : IsWrite (setup_of m) (pass_of m) (pass_of n) kind object field value r
 
--- an allocation of an object with these counts
-pub record Makes (refs weak data_words tag : ℕ) (m n : Member) (r : Result ℕ Refusal) : Type 0 where
+-- an allocation of an object with this header
+pub record Makes (header : Head) (m n : Member) (r : Result ℕ Refusal) : Type 0 where
   pub crew : crew_of n ≡ crew_of m
   pub grows : Grows (pass_of m) (pass_of n)
-  pub made : OnOk r (made_of n ≡ made_of m + asked_size (header_with (setup_of m).heap.edition refs weak data_words tag))
-  pub allocated : IfOk r (AllocatesAsked (setup_of m) (pass_of m) (pass_of n) (header_with (setup_of m).heap.edition refs weak data_words tag))
+  pub made : OnOk r (made_of n ≡ made_of m + size_of header)
+  pub allocated : IfOk r (Allocates (setup_of m) (pass_of m) (pass_of n) header)
   pub kept : OnErr r ((did (pass_of n) ≡ did (pass_of m)) × (made_of n ≡ made_of m))
   pub alone : IsNeverBusyAlone m r
-  pub refused : IfErr r (AskedRefused (setup_of m) (pass_of m) (pass_of n) (header_with (setup_of m).heap.edition refs weak data_words tag))
+  pub refused : IfErr r (AllocationRefused (setup_of m) (pass_of m) (pass_of n) (size_of header))
+
+-- a word, as a header of the heap of this mutator
+abbrev pub header_by : Member → ℕ → Head
+header_by m word = header_of (setup_of m).heap.edition word
 
 -- 1 if the touch built the page, else 0
 abbrev pub touch_number : Touched → ℕ
@@ -73,7 +77,7 @@ pub record TouchesPage (p : ℕ) (m n : Member) (r : Result Touched Refusal) : T
 
 abbrev pub IsTouchAnswer : Result Touched Refusal → Answer → Type 0
 IsTouchAnswer (Ok touched) a = a ≡ done (touch_number touched)
-IsTouchAnswer (Err refusal) a = a ≡ of_refusal refusal
+IsTouchAnswer (Err refusal) a = a ≡ of_refusal 0 refusal
 
 -- a touch: there is no such page, and nothing has changed, or the page was touched
 abbrev pub Touches : ℕ → Member → Member → Answer → Type 0
@@ -87,40 +91,23 @@ IsRoot i m a =
     (roots : List ℕ) × AreForwarded (setup_of m).heap roots
     × (((i < length roots) × (a ≡ done (slice_index roots i))) ⊎ ((length roots ≤ i) × (a ≡ bare 13 i)))
 
--- the number of words of all objects that the mutator allocated
-abbrev pub HasMade : Member → Answer → Type 0
-HasMade m a = (a ≡ done (made_of m)) × (made_of m ≡ allocated (edition_of (pass_of m)) (did (pass_of m)))
+-- the call answered as a call that did this; n is the field that was asked for, or the size of the object
+abbrev pub Answers : ℕ → (Result ℕ Refusal → Type 0) → Answer → Type 0
+Answers n P a = (r : Result ℕ Refusal) × IsAnswer n r a × P r
 
--- the call answered as a call that did this
-abbrev pub Answers : (Result ℕ Refusal → Type 0) → Answer → Type 0
-Answers P a = (r : Result ℕ Refusal) × IsAnswer r a × P r
-
--- What a call does to the mutator, and what it answers. A count of an allocation that is above 65,535 is taken as
--- 65,535, so that it is more than an object of a fresh page has.
+-- what a call does to the mutator, and what it answers
 abbrev pub Does : Call → Member → Member → Answer → Type 0
-Does (ReadRef object field) m n a = Answers (ReadsField kinds.Reference object field m n) a
-Does (ReadWeak object field) m n a = Answers (ReadsField kinds.Weak object field m n) a
-Does (ReadData object field) m n a = Answers (ReadsField kinds.Data object field m n) a
-Does (WriteRef object field value) m n a = Answers (WritesField kinds.Reference object field value m n) a
-Does (WriteWeak object field value) m n a = Answers (WritesField kinds.Weak object field value m n) a
-Does (WriteData object field value) m n a = Answers (WritesField kinds.Data object field value m n) a
-Does (Alloc refs weak data_words tag) m n a = Answers (Makes (min refs 65535) (min weak 65535) (min data_words 65535) tag m n) a
+Does (ReadRef object field) m n a = Answers field (ReadsField kinds.Reference object field m n) a
+Does (ReadWeak object field) m n a = Answers field (ReadsField kinds.Weak object field m n) a
+Does (ReadData object field) m n a = Answers field (ReadsField kinds.Data object field m n) a
+Does (WriteRef object field value) m n a = Answers field (WritesField kinds.Reference object field value m n) a
+Does (WriteWeak object field value) m n a = Answers field (WritesField kinds.Weak object field value m n) a
+Does (WriteData object field value) m n a = Answers field (WritesField kinds.Data object field value m n) a
+Does (Alloc word) m n a = Answers (size_of (header_by m word)) (Makes (header_by m word) m n) a
 Does (Touch p) m n a = Touches p m n a
 Does (Root i) m n a = (n ≡ m) × IsRoot i m a
-Does Pages m n a = (n ≡ m) × (a ≡ done (pages (setup_of m)))
-Does CompactedPages m n a = (n ≡ m) × (a ≡ done (setup_of m).compacted)
-Does Number m n a = (n ≡ m) × (a ≡ done (number_of (pass_of m)))
-Does BuildCount m n a = (n ≡ m) × (a ≡ done (length (builds_of (pass_of m))))
-Does (Build i) m n a = (n ≡ m) × IsPlace 24 i (builds_of (pass_of m)) a
-Does EntryCount m n a = (n ≡ m) × (a ≡ done (length (did (pass_of m))))
-Does MadeWords m n a = (n ≡ m) × HasMade m a
+Does (Build i) m n a = (n ≡ m) × IsPlace 23 i (builds_of (pass_of m)) a
 
 -- what a call by a handle does: it has a mutator, or nothing happens
 abbrev pub Calls : (Member → Member → Answer → Type 0) → Option Kept → Option Kept → Answer → Type 0
-Calls P None new a = (new ≡ None) × (a ≡ empty_handle)
-Calls P (Some (Mutator m)) new a = (n : Member) × (new ≡ Some (Mutator n)) × P m n a
-Calls P (Some Nothing) new a = (new ≡ Some Nothing) × (a ≡ wrong_handle)
-Calls P (Some (Heap heap)) new a = (new ≡ Some (Heap heap)) × (a ≡ wrong_handle)
-Calls P (Some (Plan plan)) new a = (new ≡ Some (Plan plan)) × (a ≡ wrong_handle)
-Calls P (Some (Crew bench)) new a = (new ≡ Some (Crew bench)) × (a ≡ wrong_handle)
-Calls P (Some (Ended e)) new a = (new ≡ Some (Ended e)) × (a ≡ wrong_handle)
+Calls P old new a = Asks 0 mutator_in (λ m b. (n : Member) × (new ≡ Some (Mutator n)) × P m n b) (new ≡ old) old a

@@ -1,22 +1,20 @@
 -- What is copied into a buffer of C.
-use Rattle.std.specs.Prelude.{◌≡◌, ℕ, ◌<◌, ◌≤◌, ◌⊎◌, ◌++◌, List, length, drop, Option, None, Some}
+use Rattle.std.specs.Prelude.{◌≡◌, ℕ, ◌<◌, ◌≤◌, ◌⊎◌, ◌++◌, List, length, drop}
 use Rattle.comp_crew.specs.Finishes.{roots_of}
 use Rattle.comp_crew.specs.Finishing.{finished_of}
 use Rattle.comp_crew.specs.Forwarded.{AreForwarded}
 use Rattle.comp_crew.specs.Members.{setup_of}
 use Rattle.comp_crew.specs.declared.finishing.Ended.{Ended as End}
 use Rattle.comp_crew.specs.declared.member.Member.{Member}
-use Rattle.comp_handle.specs.Answers.{bare, done, empty_handle, wrong_handle}
+use Rattle.comp_handle.specs.Answers.{bare, done}
 use Rattle.comp_handle.specs.declared.answer.Answer.{Answer}
-use Rattle.comp_handle.specs.declared.kept.Kept.{Kept}
-use Rattle.comp_handle.specs.declared.kept.Kept.TheVariants as kept
 
 -- the whole list stands at the front of the buffer, and the answer has its length; or the buffer is shorter and stays
 -- as it was, and the answer has the length that it lacks
 abbrev pub CopiesAll : List ℕ → List ℕ → List ℕ → Answer → Type 0
 CopiesAll list before after a =
     ((length list ≤ length before) × (after ≡ list ++ drop (length list) before) × (a ≡ done (length list)))
-    ⊎ ((length before < length list) × (after ≡ before) × (a ≡ bare 23 (length list)))
+    ⊎ ((length before < length list) × (after ≡ before) × (a ≡ bare 22 (length list)))
 
 -- the forwarded roots of a mutator's heap
 abbrev pub CopiesRoots : List ℕ → List ℕ → Member → Answer → Type 0
@@ -26,16 +24,6 @@ CopiesRoots before after m a = (roots : List ℕ) × AreForwarded (setup_of m).h
 abbrev pub CopiesEndRoots : List ℕ → List ℕ → End → Answer → Type 0
 CopiesEndRoots before after e a = CopiesAll (roots_of (finished_of e)) before after a
 
--- P of the mutator that a handle keeps; or it keeps none, and then R
-abbrev pub AsksInto : (Member → Answer → Type 0) → Type 0 → Option Kept → Answer → Type 0
-AsksInto P R None a = (a ≡ empty_handle) × R
-AsksInto P R (Some (kept.Mutator m)) a = P m a
-AsksInto P R (Some kept.Nothing) a = (a ≡ wrong_handle) × R
-AsksInto P R (Some (kept.Heap heap)) a = (a ≡ wrong_handle) × R
-AsksInto P R (Some (kept.Plan plan)) a = (a ≡ wrong_handle) × R
-AsksInto P R (Some (kept.Crew bench)) a = (a ≡ wrong_handle) × R
-AsksInto P R (Some (kept.Ended e)) a = (a ≡ wrong_handle) × R
-
--- the same; or there is no memory for the list, and the buffer stays as it was
+-- the same; or there is no memory for the list, for which the buffer is long enough, and the buffer stays as it was
 abbrev pub WritesBytes : List ℕ → List ℕ → List ℕ → Answer → Type 0
-WritesBytes list before after a = CopiesAll list before after a ⊎ ((after ≡ before) × (a ≡ bare 9 0))
+WritesBytes list before after a = CopiesAll list before after a ⊎ ((length list ≤ length before) × (after ≡ before) × (a ≡ bare 9 0))

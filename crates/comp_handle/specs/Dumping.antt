@@ -7,7 +7,7 @@ use Rattle.comp_dump.specs.Dumped.{BuiltPage, Dumped, IsStored}
 use Rattle.comp_dump.specs.DumpEncoding.{dump_bytes}
 use Rattle.comp_dump.specs.Lent.{record_of}
 use Rattle.comp_audit.specs.Judged.{faults}
-use Rattle.comp_handle.specs.Answers.{bare, done}
+use Rattle.comp_handle.specs.Answers.{bare}
 use Rattle.comp_handle.specs.Copying.{WritesBytes}
 use Rattle.comp_handle.specs.declared.answer.Answer.{Answer}
 
@@ -27,10 +27,6 @@ dump_of e = record {
 pub record IsLawful (e : End) : Type 0 where
   pub stored : IsStored (dump_of e)
   pub faultless : faults (heap_of e) (dump_of e) ≡ []
-
--- how many bytes that dump has, or there is no memory for it
-abbrev pub SizesDump : End → Answer → Type 0
-SizesDump e a = (a ≡ done (length (dump_bytes (dump_of e)))) ⊎ (a ≡ bare 9 0)
 
 -- that dump, which is lawful, stands at the front of the buffer; or the buffer stays as it was, and the answer says why
 abbrev pub WritesDump : List ℕ → List ℕ → End → Answer → Type 0

@@ -1,4 +1,4 @@
--- What becomes of two handles.
+-- Two handles at once: a mutator and its crew, and two mutators.
 use Rattle.std.specs.Prelude.{◌≡◌, ◌≢◌, ℕ, ◌⊎◌, Option, None, Some}
 use Rattle.comp_crew.specs.Benches.{IsGiven, IsStranger, IsToldApart}
 use Rattle.comp_crew.specs.Calls as calls
@@ -7,34 +7,25 @@ use Rattle.comp_crew.specs.Passes.{seen}
 use Rattle.comp_crew.specs.declared.bench.Bench.{Bench}
 use Rattle.comp_crew.specs.declared.member.Member.{Member}
 use Rattle.comp_handle.specs.Answers.{bare, done}
-use Rattle.comp_handle.specs.Keeping.{IsNoCrew, IsNoMutator}
+use Rattle.comp_handle.specs.Kinds.{crew_in, mutator_in, Asks}
 use Rattle.comp_handle.specs.declared.answer.Answer.{Answer}
 use Rattle.comp_handle.specs.declared.kept.Kept.{Kept}
 use Rattle.comp_handle.specs.declared.kept.Kept.TheVariants as kept
 
--- they are a crew and a mutator of another one
-abbrev pub IsOfOtherCrew : Kept → Kept → Type 0
-IsOfOtherCrew k own = (bench : Bench) × (m : Member) × (k ≡ kept.Crew bench) × (own ≡ kept.Mutator m) × IsStranger bench m
+-- the mutator goes back to the crew, and its handle is empty; or both stay, since it is one of another crew
+abbrev pub Joins : Bench → Member → Option Kept → Option Kept → Option Kept → Option Kept → Answer → Type 0
+Joins bench m crew left own rest a =
+    ((after : Bench) × (left ≡ Some (kept.Crew after)) × (rest ≡ None) × IsGiven bench m after × (a ≡ done 0))
+    ⊎ ((left ≡ crew) × (rest ≡ own) × IsStranger bench m × (a ≡ bare 17 0))
 
--- the second one is a mutator of the crew that is the first one, and goes back to it; or nothing changes, and the answer
--- says why
-abbrev pub Joins : Kept → Kept → Kept → Option Kept → Answer → Type 0
-Joins k own l rest a =
-    ((before : Bench) × (after : Bench) × (m : Member) × (k ≡ kept.Crew before) × (own ≡ kept.Mutator m) × (l ≡ kept.Crew after) × IsGiven before m after × (rest ≡ None) × (a ≡ done 0))
-    ⊎ ((rest ≡ Some own) × (l ≡ k) × (((a ≡ bare 16 0) × IsOfOtherCrew k own) ⊎ (((a ≡ bare 11 0) × IsNoCrew k) ⊎ ((a ≡ bare 11 1) × IsNoMutator own))))
-
--- the names tell the crew from that of the mutator
-abbrev pub IsTold : Kept → Kept → Type 0
-IsTold k own = (bench : Bench) (m : Member) → k ≡ kept.Crew bench → own ≡ kept.Mutator m → IsToldApart m bench
-
-abbrev pub IsToldFrom : Option Kept → Option Kept → Type 0
-IsToldFrom crew mutator = (k own : Kept) → crew ≡ Some k → mutator ≡ Some own → IsTold k own
-
--- the same by handles, which may be empty
+-- the same for what the handles keep
 abbrev pub Gives : Option Kept → Option Kept → Option Kept → Option Kept → Answer → Type 0
 Gives crew left own rest a =
-    ((k : Kept) × (o : Kept) × (l : Kept) × (crew ≡ Some k) × (own ≡ Some o) × (left ≡ Some l) × Joins k o l rest a)
-    ⊎ ((left ≡ crew) × (rest ≡ own) × (((own ≡ None) × (a ≡ bare 10 1)) ⊎ ((crew ≡ None) × (a ≡ bare 10 0))))
+    Asks 0 crew_in (λ bench b. Asks 1 mutator_in (λ m c. Joins bench m crew left own rest c) ((left ≡ crew) × (rest ≡ own)) own b) ((left ≡ crew) × (rest ≡ own)) crew a
+
+-- the names tell the crew from that of the mutator
+abbrev pub IsToldFrom : Option Kept → Option Kept → Type 0
+IsToldFrom crew mutator = (bench : Bench) (m : Member) → crew_in crew ≡ Some bench → mutator_in mutator ≡ Some m → IsToldApart m bench
 
 -- what a meeting changes
 pub record AreMet (m o n p : Member) : Type 0 where
@@ -45,25 +36,17 @@ pub record AreMet (m o n p : Member) : Type 0 where
   pub other_meets : calls.Meets (pass_of m) (pass_of o) (pass_of p)
   pub same : (q : ℕ) → seen (pass_of n) q ≡ seen (pass_of p) q
 
--- they are members of crews of two names
-abbrev pub AreStrangers : Kept → Kept → Type 0
-AreStrangers k own = (m : Member) × (o : Member) × (k ≡ kept.Mutator m) × (own ≡ kept.Mutator o) × (name_of m ≢ name_of o)
+-- two mutators meet; or both stay, since the names of their crews differ
+abbrev pub Meets : Member → Member → Option Kept → Option Kept → Option Kept → Option Kept → Answer → Type 0
+Meets m o first left other rest a =
+    ((n : Member) × (p : Member) × (left ≡ Some (kept.Mutator n)) × (rest ≡ Some (kept.Mutator p)) × AreMet m o n p × (a ≡ done 0))
+    ⊎ ((left ≡ first) × (rest ≡ other) × (name_of m ≢ name_of o) × (a ≡ bare 17 0))
 
--- two members meet; or nothing changes, and the answer says why
-abbrev pub Meets : Kept → Kept → Kept → Kept → Answer → Type 0
-Meets k own l rest a =
-    ((m : Member) × (o : Member) × (n : Member) × (p : Member) × (k ≡ kept.Mutator m) × (own ≡ kept.Mutator o) × (l ≡ kept.Mutator n) × (rest ≡ kept.Mutator p) × AreMet m o n p × (a ≡ done 0))
-    ⊎ ((l ≡ k) × (rest ≡ own) × (((a ≡ bare 16 0) × AreStrangers k own) ⊎ (((a ≡ bare 11 0) × IsNoMutator k) ⊎ ((a ≡ bare 11 1) × IsNoMutator own))))
-
--- the names tell the crews of two members apart
-abbrev pub AreKeptApart : Kept → Kept → Type 0
-AreKeptApart k own = (m o : Member) → k ≡ kept.Mutator m → own ≡ kept.Mutator o → AreToldApart m o
-
-abbrev pub AreApart : Option Kept → Option Kept → Type 0
-AreApart first other = (k own : Kept) → first ≡ Some k → other ≡ Some own → AreKeptApart k own
-
--- the same by handles, which may be empty
+-- the same for what the handles keep
 abbrev pub Brings : Option Kept → Option Kept → Option Kept → Option Kept → Answer → Type 0
 Brings first other left rest a =
-    ((k : Kept) × (o : Kept) × (l : Kept) × (r : Kept) × (first ≡ Some k) × (other ≡ Some o) × (left ≡ Some l) × (rest ≡ Some r) × Meets k o l r a)
-    ⊎ ((left ≡ first) × (rest ≡ other) × (((first ≡ None) × (a ≡ bare 10 0)) ⊎ ((other ≡ None) × (a ≡ bare 10 1))))
+    Asks 0 mutator_in (λ m b. Asks 1 mutator_in (λ o c. Meets m o first left other rest c) ((left ≡ first) × (rest ≡ other)) other b) ((left ≡ first) × (rest ≡ other)) first a
+
+-- the names tell the crews of two mutators apart
+abbrev pub AreApart : Option Kept → Option Kept → Type 0
+AreApart first other = (m o : Member) → mutator_in first ≡ Some m → mutator_in other ≡ Some o → AreToldApart m o

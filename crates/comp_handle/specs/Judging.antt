@@ -1,25 +1,24 @@
--- The audit of a dump, for the heap of a plan.
-use Rattle.std.specs.Prelude.{◌≡◌, ℕ, ◌⊎◌, true, List, [], Option, None, Some}
+-- The audit of a dump, or of a file of words, for the heap of a plan.
+use Rattle.std.specs.Prelude.{◌≡◌, ℕ, ◌<◌, ◌≤◌, ◌%◌, ◌==◌, ◌⊎◌, nat_le, Bool, true, false, min, List, [], Result, Ok}
 use Rattle.heap_layout.specs.Faults.{IsFirst}
 use Rattle.heap_layout.specs.Heap.{Heap}
 use Rattle.comp_dump.specs.Dumped.{Dumped, IsStored}
 use Rattle.comp_dump.specs.DumpEncoding.{dump_bytes}
 use Rattle.comp_dump.specs.DumpReading.{read_whole_by, Fails}
+use Rattle.comp_dump.specs.WordsReading.{read_whole_words}
 use Rattle.comp_dump.specs.declared.fault.AuditFault.{AuditFault}
 use Rattle.comp_dump.specs.declared.fault.AuditFault.TheVariants as audit
 use Rattle.comp_dump.specs.declared.fault.DumpFault.{DumpFault}
 use Rattle.comp_dump.specs.declared.fault.DumpFault.TheVariants as dump
-use Rattle.comp_audit.specs.Judged.{faults}
-use Rattle.comp_handle.specs.Answers.{bare, done, empty_handle, wrong_handle}
+use Rattle.comp_audit.specs.Judged.{faults, whole_faults}
+use Rattle.comp_handle.specs.Answers.{bare, done, two}
 use Rattle.comp_handle.specs.declared.answer.Answer.{Answer}
-use Rattle.comp_handle.specs.declared.kept.Kept.{Kept}
-use Rattle.comp_handle.specs.declared.kept.Kept.TheVariants as kept
 
--- a fault of the audit; of a bad entry the page alone is answered
+-- a fault of the audit; of a bad entry the page, and the number of the entry, of which a page has at most 1,024
 abbrev pub of_audit : AuditFault → Answer
 of_audit (audit.WrongWord a) = bare 65 a
 of_audit (audit.LooseReference a) = bare 66 a
-of_audit (audit.BadEntry p i) = bare 67 p
+of_audit (audit.BadEntry p i) = two 67 p (min i 4294967295)
 of_audit (audit.StampRepeated stamp) = bare 68 stamp
 of_audit (audit.StampMissing stamp) = bare 69 stamp
 of_audit audit.WrongTotal = bare 70 0
@@ -40,18 +39,37 @@ of_dump dump.Device = bare 9 0
 abbrev pub Judges : List AuditFault → ℕ → Answer → Type 0
 Judges list total a = ((list ≡ []) × (a ≡ done total)) ⊎ ((fault : AuditFault) × IsFirst list fault × (a ≡ of_audit fault))
 
--- the bytes are a dump, and it is judged for this heap; or the answer is why none is read, or that there is no memory
-abbrev pub JudgesBytes : List ℕ → Heap → Answer → Type 0
-JudgesBytes bytes heap a =
-    ((dumped : Dumped) × (bytes ≡ dump_bytes dumped) × IsStored dumped × Judges (faults heap dumped) dumped.total a)
-    ⊎ ((fault : DumpFault) × Fails fault (read_whole_by true bytes) × (a ≡ of_dump fault))
+-- what options ask for: the first one that each compacted page was built, the second one that the bytes are a file of
+-- words
+abbrev pub asks_whole : ℕ → Bool
+asks_whole options = (options % 2) == 1
 
--- P of the heap whose plan a handle keeps; or it keeps none
-abbrev pub HasPlan : (Heap → Answer → Type 0) → Option Kept → Answer → Type 0
-HasPlan P None a = a ≡ empty_handle
-HasPlan P (Some (kept.Plan plan)) a = P plan.value a
-HasPlan P (Some kept.Nothing) a = a ≡ wrong_handle
-HasPlan P (Some (kept.Heap heap)) a = a ≡ wrong_handle
-HasPlan P (Some (kept.Crew bench)) a = a ≡ wrong_handle
-HasPlan P (Some (kept.Mutator m)) a = a ≡ wrong_handle
-HasPlan P (Some (kept.Ended e)) a = a ≡ wrong_handle
+abbrev pub asks_words : ℕ → Bool
+asks_words options = nat_le 2 options
+
+-- the faults of a dump, with the pages that were never built or without
+abbrev pub faults_for : Bool → Heap → Dumped → List AuditFault
+faults_for true heap dumped = whole_faults heap dumped
+faults_for false heap dumped = faults heap dumped
+
+-- bytes, read as a file of words or as a dump
+abbrev pub read_by : Bool → List ℕ → Result Dumped DumpFault
+read_by true bytes = read_whole_words true bytes
+read_by false bytes = read_whole_by true bytes
+
+-- these bytes are a file of words that stands for this dump, or the bytes of this dump
+abbrev pub StandsFor : Bool → List ℕ → Dumped → Type 0
+StandsFor true bytes dumped = read_whole_words true bytes ≡ Ok dumped
+StandsFor false bytes dumped = bytes ≡ dump_bytes dumped
+
+-- the bytes are a dump, and it is judged for this heap; or the answer is why none is read, or that there is no memory
+abbrev pub JudgesBytes : Bool → Bool → List ℕ → Heap → Answer → Type 0
+JudgesBytes whole words bytes heap a =
+    ((dumped : Dumped) × StandsFor words bytes dumped × IsStored dumped × Judges (faults_for whole heap dumped) dumped.total a)
+    ⊎ ((fault : DumpFault) × Fails fault (read_by words bytes) × (a ≡ of_dump fault))
+
+-- the same by options, or these have no meaning
+abbrev pub JudgesBy : ℕ → List ℕ → Heap → Answer → Type 0
+JudgesBy options bytes heap a =
+    ((3 < options) × (a ≡ bare 32 options))
+    ⊎ ((options ≤ 3) × JudgesBytes (asks_whole options) (asks_words options) bytes heap a)

@@ -4,7 +4,7 @@ use Rattle.comp_crew.specs.Benches.{IsBench}
 use Rattle.comp_crew.specs.Members.{IsMember}
 use Rattle.comp_crew.specs.Finishing.{IsEnded}
 use Rattle.comp_handle.specs.declared.kept.Kept.{Kept}
-use Rattle.comp_handle.specs.declared.kept.Kept.TheVariants.{Nothing, Heap, Plan, Crew, Mutator, Ended}
+use Rattle.comp_handle.specs.declared.kept.Kept.TheVariants.{Nothing, Heap, Plan, Crew, Mutator, Ended, Survey, Tables, Job}
 
 abbrev pub IsKept : Kept → Type 0
 IsKept Nothing = Unit {0}
@@ -13,26 +13,11 @@ IsKept (Plan plan) = Unit {0}
 IsKept (Crew bench) = IsBench bench
 IsKept (Mutator m) = IsMember m
 IsKept (Ended e) = IsEnded e
+IsKept (Survey survey) = Unit {0}
+IsKept (Tables tables) = Unit {0}
+IsKept (Job job) = Unit {0}
 
 -- the handle keeps this now, or what it kept before
 abbrev pub KeepsIf : Bool → Kept → Option Kept → Option Kept → Type 0
 KeepsIf true kept old new = new ≡ Some kept
 KeepsIf false kept old new = new ≡ old
-
--- it keeps no crew
-abbrev pub IsNoCrew : Kept → Type 0
-IsNoCrew (Crew bench) = ⊥
-IsNoCrew Nothing = Unit {0}
-IsNoCrew (Heap heap) = Unit {0}
-IsNoCrew (Plan plan) = Unit {0}
-IsNoCrew (Mutator m) = Unit {0}
-IsNoCrew (Ended e) = Unit {0}
-
--- it keeps no mutator
-abbrev pub IsNoMutator : Kept → Type 0
-IsNoMutator (Mutator m) = ⊥
-IsNoMutator Nothing = Unit {0}
-IsNoMutator (Heap heap) = Unit {0}
-IsNoMutator (Plan plan) = Unit {0}
-IsNoMutator (Crew bench) = Unit {0}
-IsNoMutator (Ended e) = Unit {0}

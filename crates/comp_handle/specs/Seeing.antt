@@ -1,5 +1,5 @@
 -- A copy of a page, as a mutator sees it while others go on.
-use Rattle.std.specs.Prelude.{◌≡◌, ℕ, ◌<◌, ◌≤◌, ◌⊎◌, List, length, Option, None, Some, Result, Ok, Err, IfOk, IfErr}
+use Rattle.std.specs.Prelude.{◌≡◌, ℕ, ◌<◌, ◌≤◌, ◌⊎◌, List, length, Option, Some, Result, Ok, Err, IfOk, IfErr}
 use Rattle.comp_crew.specs.Calls.{Grows}
 use Rattle.comp_crew.specs.Copies.{CopyRefused, IsCopy}
 use Rattle.comp_crew.specs.Members.{crew_of, made_of, pass_of, setup_of}
@@ -11,9 +11,10 @@ use Rattle.comp_crew.specs.Setup.{pages}
 use Rattle.comp_crew.specs.declared.member.Member.{Member}
 use Rattle.comp_handle.specs.Answers.{bare, done, of_refusal}
 use Rattle.comp_handle.specs.Calling.{IsNeverBusyAlone}
-use Rattle.comp_handle.specs.Keeping.{IsNoMutator}
+use Rattle.comp_handle.specs.Kinds.{mutator_in, Asks}
 use Rattle.comp_handle.specs.declared.answer.Answer.{Answer}
 use Rattle.comp_handle.specs.declared.kept.Kept.{Kept}
+use Rattle.comp_handle.specs.declared.kept.Kept.TheVariants as kept
 
 -- a copy of a page that exists: its words and its journal as the mutator has seen them after the call. The page may
 -- have been built by the call, also by one that is refused
@@ -31,7 +32,7 @@ pub record SeesPage (p : ℕ) (m n : Member) (r : Result PageCopy Refusal) : Typ
 -- and the answer says why
 abbrev pub IsCopyAnswer : Result PageCopy Refusal → List ℕ → List ℕ → Answer → Type 0
 IsCopyAnswer (Ok copy) before after a = (after ≡ copy.words) × (a ≡ done (length copy.journal.items))
-IsCopyAnswer (Err refusal) before after a = (after ≡ before) × (a ≡ of_refusal refusal)
+IsCopyAnswer (Err refusal) before after a = (after ≡ before) × (a ≡ of_refusal 0 refusal)
 
 -- page p is copied; or there is no such page, and nothing has changed
 abbrev pub CopiesSeen : ℕ → List ℕ → List ℕ → Member → Member → Answer → Type 0
@@ -39,7 +40,7 @@ CopiesSeen p before after m n a =
     ((pages (setup_of m) ≤ p) × (n ≡ m) × (after ≡ before) × (a ≡ bare 12 p))
     ⊎ ((p < pages (setup_of m)) × ((r : Result PageCopy Refusal) × IsCopyAnswer r before after a × SeesPage p m n r))
 
--- the handle keeps no mutator
-abbrev pub HasNoMutator : Option Kept → Type 0
-HasNoMutator None = Unit {0}
-HasNoMutator (Some k) = IsNoMutator k
+-- the same for the mutator that a handle keeps; or it keeps none, and nothing has changed
+abbrev pub SeesBy : ℕ → List ℕ → List ℕ → Option Kept → Option Kept → Answer → Type 0
+SeesBy p before after old new a =
+    Asks 0 mutator_in (λ m b. (n : Member) × (new ≡ Some (kept.Mutator n)) × CopiesSeen p before after m n b) ((new ≡ old) × (after ≡ before)) old a

@@ -1,85 +1,73 @@
 -- What becomes of what a handle keeps.
-use Rattle.std.specs.Prelude.{◌≡◌, ℕ, ◌⊎◌, List, Option, None, Some}
+use Rattle.std.specs.Prelude.{◌≡◌, ℕ, List, Option, Some}
 use Rattle.heap_layout.specs.Faults.{IsAccepted}
+use Rattle.heap_layout.specs.Heap.{Heap}
 use Rattle.heap_layout.specs.declared.fault.LayoutFault.{LayoutFault}
-use Rattle.comp_crew.specs.Cycles.{given_after, heap_after, numbers_after, AreApart, IsChapter, IsCycleOf}
-use Rattle.comp_crew.specs.Ends.{cycle_of, cycle_with, next_sizes, setup_in, IsRefusedFor, IsRefusedWithin}
-use Rattle.comp_crew.specs.Finishes.{journals_of, live_of, roots_of}
+use Rattle.comp_crew.specs.Cycles.{given_after, heap_after, numbers_after, AreApart, Cycle, IsChapter, IsCycleOf}
+use Rattle.comp_crew.specs.Ends.{checked_faults, cycle_with, next_sizes, setup_in, IsRefusedFor, IsRefusedWithin}
+use Rattle.comp_crew.specs.Finishes.{journals_of, live_of}
 use Rattle.comp_crew.specs.Finishing.{finished_of, heap_of, IsEndBy, IsOfItsFlip, IsUnfinishedFor}
-use Rattle.comp_crew.specs.NextHeap.{next_faults}
 use Rattle.comp_crew.specs.NextRoots.{IsRefusedWith}
 use Rattle.comp_crew.specs.Numbered.{IsNumberedAs}
 use Rattle.comp_crew.specs.Stable.{StableHeap}
 use Rattle.comp_crew.specs.StableReach.{written, AreMarkedReachable, KeepsExactly}
+use Rattle.comp_crew.specs.declared.bench.Bench.{Bench}
 use Rattle.comp_crew.specs.declared.fault.FinishFault.{FinishFault}
 use Rattle.comp_crew.specs.declared.fault.FinishFault.TheVariants as finish
 use Rattle.comp_crew.specs.declared.finishing.Ended.{Ended as End}
-use Rattle.comp_handle.specs.Answers.{bare, done, empty_handle, of_layout, wrong_handle}
+use Rattle.comp_handle.specs.Answers.{bare, done, of_layout}
+use Rattle.comp_handle.specs.Kinds.{plan_in}
 use Rattle.comp_handle.specs.declared.answer.Answer.{Answer}
 use Rattle.comp_handle.specs.declared.kept.Kept.{Kept}
 use Rattle.comp_handle.specs.declared.kept.Kept.TheVariants as kept
 
--- what becomes of what the handle keeps, if it keeps something
-abbrev pub Turns : (Kept → Kept → Answer → Type 0) → Option Kept → Option Kept → Answer → Type 0
-Turns P None new a = (new ≡ None) × (a ≡ empty_handle)
-Turns P (Some k) new a = (l : Kept) × (new ≡ Some l) × P k l a
+-- a heap becomes its plan
+abbrev pub Plans : Heap → Option Kept → Answer → Type 0
+Plans heap now a = (plan_in now ≡ Some heap) × (a ≡ done 0)
 
--- it is not what was asked for, and stays
-abbrev pub IsWrong : Kept → Kept → Answer → Type 0
-IsWrong k l a = (l ≡ k) × (a ≡ wrong_handle)
-
--- a heap becomes its plan, or stays if memory runs out
-abbrev pub Plans : Kept → Kept → Answer → Type 0
-Plans (kept.Heap heap) l a = ((plan : _) × (l ≡ kept.Plan plan) × (plan.value ≡ heap) × (a ≡ done 0)) ⊎ ((l ≡ kept.Heap heap) × (a ≡ bare 9 0))
-Plans kept.Nothing l a = IsWrong kept.Nothing l a
-Plans (kept.Plan plan) l a = IsWrong (kept.Plan plan) l a
-Plans (kept.Crew bench) l a = IsWrong (kept.Crew bench) l a
-Plans (kept.Mutator m) l a = IsWrong (kept.Mutator m) l a
-Plans (kept.Ended e) l a = IsWrong (kept.Ended e) l a
+-- for want of memory alone it does not
+abbrev pub IsUnplanned : Heap → Answer → Type 0
+IsUnplanned heap a = a ≡ bare 9 0
 
 -- why a crew is not finished
 abbrev pub of_finish : FinishFault → Answer
 of_finish finish.OutOfMemory = bare 9 0
-of_finish (finish.MutatorMissing k) = bare 15 k
-of_finish finish.StillShared = bare 17 0
+of_finish (finish.MutatorMissing k) = bare 16 k
+of_finish finish.StillShared = bare 28 0
 
--- a crew becomes its finished heap, or stays, with all mutators that it had, and the answer says why
-abbrev pub Finishes : Kept → Kept → Answer → Type 0
-Finishes (kept.Crew bench) l a =
-    ((e : End) × (l ≡ kept.Ended e) × IsEndBy bench e × IsOfItsFlip bench e × (a ≡ done (live_of (finished_of e))))
-    ⊎ ((fault : FinishFault) × (a ≡ of_finish fault) × IsUnfinishedFor bench fault × (l ≡ kept.Crew bench))
-Finishes kept.Nothing l a = IsWrong kept.Nothing l a
-Finishes (kept.Heap heap) l a = IsWrong (kept.Heap heap) l a
-Finishes (kept.Plan plan) l a = IsWrong (kept.Plan plan) l a
-Finishes (kept.Mutator m) l a = IsWrong (kept.Mutator m) l a
-Finishes (kept.Ended e) l a = IsWrong (kept.Ended e) l a
+-- a crew becomes its finished heap
+abbrev pub Finishes : Bench → Option Kept → Answer → Type 0
+Finishes bench now a = (e : End) × (now ≡ Some (kept.Ended e)) × IsEndBy bench e × IsOfItsFlip bench e × (a ≡ done (live_of (finished_of e)))
 
--- the cycle of a finished heap, with the marks that are handed in at its end; a next heap that is too large is refused
--- whatever memory there is
-abbrev pub NextOf : List ℕ → End → Kept → Answer → Type 0
-NextOf marks e l a =
-    let cycle = cycle_of (heap_of e) (finished_of e) marks in
-    ((l ≡ kept.Heap (heap_after cycle)) × (a ≡ done 0) × IsCycleOf (heap_of e) cycle)
-    ⊎ ((l ≡ kept.Ended e) × ((fault : LayoutFault) × (a ≡ of_layout fault) × IsRefusedFor (next_faults (setup_in (heap_of e) (finished_of e)) (journals_of (finished_of e)) (heap_after cycle)) fault
-    × IsRefusedWithin (next_sizes (finished_of e) marks (roots_of (finished_of e))) fault))
+-- why it does not
+abbrev pub IsUnfinished : Bench → Answer → Type 0
+IsUnfinished bench a = (fault : FinishFault) × (a ≡ of_finish fault) × IsUnfinishedFor bench fault
 
--- a finished heap becomes the heap with which the next cycle begins, or stays, and the answer says why
-abbrev pub Follows : List ℕ → Kept → Kept → Answer → Type 0
-Follows marks (kept.Ended e) l a = NextOf marks e l a
-Follows marks kept.Nothing l a = IsWrong kept.Nothing l a
-Follows marks (kept.Heap heap) l a = IsWrong (kept.Heap heap) l a
-Follows marks (kept.Plan plan) l a = IsWrong (kept.Plan plan) l a
-Follows marks (kept.Crew bench) l a = IsWrong (kept.Crew bench) l a
-Follows marks (kept.Mutator m) l a = IsWrong (kept.Mutator m) l a
+-- the cycle of a finished heap, with the roots and the marks that are handed in at its end
+abbrev pub cycle_at : End → List ℕ → List ℕ → Cycle
+cycle_at e roots marks = cycle_with (heap_of e) (finished_of e) roots marks
 
--- the same for what the handle keeps
-abbrev pub FollowsBy : List ℕ → Option Kept → Option Kept → Answer → Type 0
-FollowsBy marks old new a = Turns (Follows marks) old new a
+-- The handle keeps the heap with which the next cycle begins, if it has these roots and marks.
+pub record IsNext (roots marks : List ℕ) (e : End) (now : Option Kept) : Type 0 where
+  pub next : now ≡ Some (kept.Heap (heap_after (cycle_at e roots marks)))
+  pub accepted : IsAccepted (heap_after (cycle_at e roots marks))
+  pub cycle : IsCycleOf (heap_of e) (cycle_at e roots marks)
+  pub chapter : (numbers : List ℕ) (stable : StableHeap) → IsNumberedAs (heap_of e) numbers stable → IsChapter (cycle_at e roots marks) numbers stable
+
+-- a finished heap becomes that heap
+abbrev pub Follows : List ℕ → List ℕ → End → Option Kept → Answer → Type 0
+Follows roots marks e now a = IsNext roots marks e now × (a ≡ done 0)
+
+-- why it does not; a next heap that is too large is refused whatever memory there is
+abbrev pub IsUnfollowed : List ℕ → List ℕ → End → Answer → Type 0
+IsUnfollowed roots marks e a =
+    (fault : LayoutFault) × (a ≡ of_layout fault) × IsRefusedFor (checked_faults (heap_of e) (finished_of e) roots marks) fault
+    × IsRefusedWithin (next_sizes (finished_of e) marks roots) fault
 
 -- The handle keeps the heap with which the next cycle begins, if it has these roots and marks: exactly the objects are
 -- marked that the roots reach, so each of them is kept, and each other one is dropped.
-pub record IsNextReached (roots marks : List ℕ) (e : End) (l : Kept) : Type 0 where
-  pub next : l ≡ kept.Heap (heap_after (cycle_with (heap_of e) (finished_of e) roots marks))
+pub record IsNextReached (roots marks : List ℕ) (e : End) (now : Option Kept) : Type 0 where
+  pub next : now ≡ Some (kept.Heap (heap_after (cycle_with (heap_of e) (finished_of e) roots marks)))
   pub accepted : IsAccepted (heap_after (cycle_with (heap_of e) (finished_of e) roots marks))
   pub reachable : AreMarkedReachable (cycle_with (heap_of e) (finished_of e) roots marks)
   pub cycle : IsCycleOf (heap_of e) (cycle_with (heap_of e) (finished_of e) roots marks)
@@ -88,17 +76,10 @@ pub record IsNextReached (roots marks : List ℕ) (e : End) (l : Kept) : Type 0 
       → AreApart (heap_of e).edition (given_after (cycle_with (heap_of e) (finished_of e) roots marks) stable.given)
       → KeepsExactly (written (cycle_with (heap_of e) (finished_of e) roots marks) numbers stable) (numbers_after (cycle_with (heap_of e) (finished_of e) roots marks) numbers stable.given)
 
--- a finished heap becomes that heap; or stays, and the answer says why
-abbrev pub ReachedOf : List ℕ → End → Kept → Answer → Type 0
-ReachedOf roots e l a =
-    ((marks : List ℕ) × IsNextReached roots marks e l × (a ≡ done 0))
-    ⊎ ((l ≡ kept.Ended e) × ((fault : LayoutFault) × (a ≡ of_layout fault) × IsRefusedWith (setup_in (heap_of e) (finished_of e)) (journals_of (finished_of e)) roots fault))
+-- a finished heap becomes that heap
+abbrev pub FollowsReached : List ℕ → End → Option Kept → Answer → Type 0
+FollowsReached roots e now a = (marks : List ℕ) × IsNextReached roots marks e now × (a ≡ done 0)
 
--- the same for what is kept
-abbrev pub FollowsReached : List ℕ → Kept → Kept → Answer → Type 0
-FollowsReached roots (kept.Ended e) l a = ReachedOf roots e l a
-FollowsReached roots kept.Nothing l a = IsWrong kept.Nothing l a
-FollowsReached roots (kept.Heap heap) l a = IsWrong (kept.Heap heap) l a
-FollowsReached roots (kept.Plan plan) l a = IsWrong (kept.Plan plan) l a
-FollowsReached roots (kept.Crew bench) l a = IsWrong (kept.Crew bench) l a
-FollowsReached roots (kept.Mutator m) l a = IsWrong (kept.Mutator m) l a
+-- why it does not
+abbrev pub IsUnreached : List ℕ → End → Answer → Type 0
+IsUnreached roots e a = (fault : LayoutFault) × (a ≡ of_layout fault) × IsRefusedWith (setup_in (heap_of e) (finished_of e)) (journals_of (finished_of e)) roots fault

@@ -1,17 +1,22 @@
 //! What a call of C is answered.
 ghost use Rattle.std.specs.Prelude.{◌≡◌};
-ghost use Rattle.comp_handle.specs.Answers.{bare, done, of_layout, of_refusal, IsAnswer, IsPlace};
+ghost use Rattle.comp_handle.specs.Answers.{bare, done, of_collect, of_collect_lent, of_layout, of_lent, of_marks, of_refusal, of_slide, of_survey, two, IsAnswer, IsPlace};
 
 use comp_crew::Refusal;
 use heap_layout::LayoutFault;
+use stopped_heap::{
+    CollectFault, CollectLentFault, LentFault, MarksFault, SlideFault, SurveyFault,
+};
 
-/// A status and a value. The status 0 means that it is done; then the value is the result. Else the value is the number
-/// that the refusal names, or 0.
+/// A status and two numbers. The status 0 means that it is done; then the value is the result. Else the value and the
+/// other number are those that the refusal names, in this order, or 0. The C headers have the statuses by name.
 #[repr(C)]
 #[derive(Clone, Copy, Debug, PartialEq, Eq)]
 pub struct Answer {
     /// The status.
     pub status: u32,
+    /// The second number of the refusal.
+    pub other: u32,
     /// The result, or the number of the refusal.
     pub value: u64,
 }
@@ -21,14 +26,33 @@ impl Answer {
     pub fn done(value: u64) -> Answer
         ensures { result ≡ done value }
     {
-        Answer { status: 0, value }
+        Answer {
+            status: 0,
+            other: 0,
+            value,
+        }
     }
 
-    /// The answer with this status and this value.
+    /// The answer with this status and this number.
     pub fn bare(status: u32, value: u64) -> Answer
         ensures { result ≡ bare status value }
     {
-        Answer { status, value }
+        Answer {
+            status,
+            other: 0,
+            value,
+        }
+    }
+
+    /// The answer with this status and these two numbers.
+    pub fn two(status: u32, value: u64, other: u32) -> Answer
+        ensures { result ≡ two status value other }
+    {
+        Answer {
+            status,
+            other,
+            value,
+        }
     }
 
     /// The number at place `i` of a list; if there is none, the answer with this status and `i`.
@@ -42,30 +66,30 @@ impl Answer {
         }
     }
 
-    /// The answer of a refused call of a mutator.
-    pub fn refused(refusal: Refusal) -> Answer
-        ensures { result ≡ of_refusal refusal }
+    /// The answer of a refused call of a mutator; `n` is the field that was asked for, or the size of the object.
+    pub fn refused(n: u32, refusal: Refusal) -> Answer
+        ensures { result ≡ of_refusal n refusal }
     {
         match refusal {
             Refusal::Busy(p) => Answer::bare(1, p),
             Refusal::Null => Answer::bare(2, 0),
             Refusal::NotAStart(a) => Answer::bare(3, a),
-            Refusal::NoSuchField => Answer::bare(4, 0),
+            Refusal::NoSuchField => Answer::bare(4, u64::from(n)),
             Refusal::NotInEdition => Answer::bare(5, 0),
-            Refusal::ObjectTooLarge => Answer::bare(6, 0),
+            Refusal::ObjectTooLarge => Answer::bare(6, u64::from(n)),
             Refusal::OutOfPages => Answer::bare(7, 0),
             Refusal::JournalFull(p) => Answer::bare(8, p),
             Refusal::OutOfMemory => Answer::bare(9, 0),
         }
     }
 
-    /// The answer of a call of a mutator.
-    pub fn of(called: Result<u64, Refusal>) -> Answer
-        ensures { IsAnswer called result }
+    /// The answer of a call of a mutator; `n` as above.
+    pub fn of(n: u32, called: Result<u64, Refusal>) -> Answer
+        ensures { IsAnswer n called result }
     {
         match called {
             Ok(value) => Answer::done(value),
-            Err(refusal) => Answer::refused(refusal),
+            Err(refusal) => Answer::refused(n, refusal),
         }
     }
 
@@ -87,6 +111,81 @@ impl Answer {
             LayoutFault::OutOfMemory => Answer::bare(9, 0),
             LayoutFault::Device => Answer::bare(9, 0),
             LayoutFault::BadWeak(i) => Answer::bare(45, i),
+        }
+    }
+
+    /// The answer of words and roots that are not surveyed.
+    pub fn unsurveyed(fault: SurveyFault) -> Answer
+        ensures { result ≡ of_survey fault }
+    {
+        match fault {
+            SurveyFault::TooLarge => Answer::bare(33, 0),
+            SurveyFault::BadRoot(k) => Answer::bare(38, k),
+            SurveyFault::BadReference(i) => Answer::bare(131, i),
+            SurveyFault::BadWeak(i) => Answer::bare(45, i),
+            SurveyFault::ObjectTooLong(i) => Answer::bare(35, i),
+            SurveyFault::ObjectPastEnd(i) => Answer::bare(34, i),
+            SurveyFault::Overlap(i) => Answer::bare(135, i),
+            SurveyFault::OutOfMemory => Answer::bare(9, 0),
+        }
+    }
+
+    /// The answer of words that are not surveyed by marks of the caller's own.
+    pub fn unmarked(fault: MarksFault) -> Answer
+        ensures { result ≡ of_marks fault }
+    {
+        match fault {
+            MarksFault::TooLarge => Answer::bare(33, 0),
+            MarksFault::WrongLength => Answer::bare(31, 0),
+            MarksFault::BadRoot(k) => Answer::bare(38, k),
+            MarksFault::ObjectTooLong(i) => Answer::bare(35, i),
+            MarksFault::ObjectPastEnd(i) => Answer::bare(34, i),
+            MarksFault::Overlap(i) => Answer::bare(135, i),
+            MarksFault::UnmarkedTarget(i) => Answer::bare(39, i),
+            MarksFault::BadWeak(i) => Answer::bare(45, i),
+            MarksFault::OutOfMemory => Answer::bare(9, 0),
+        }
+    }
+
+    /// The answer of a part that is not filled.
+    pub fn unslid(fault: SlideFault) -> Answer
+        ensures { result ≡ of_slide fault }
+    {
+        match fault {
+            SlideFault::NoSuchPart => Answer::bare(25, 0),
+            SlideFault::OtherCount => Answer::bare(29, 0),
+            SlideFault::Changed(i) => Answer::bare(26, i),
+            SlideFault::Unmarked(i) => Answer::bare(27, i),
+        }
+    }
+
+    /// The answer of a heap that is not collected.
+    pub fn uncollected(fault: CollectFault) -> Answer
+        ensures { result ≡ of_collect fault }
+    {
+        match fault {
+            CollectFault::Survey(fault) => Answer::unsurveyed(fault),
+            CollectFault::NoRoom(live) => Answer::bare(22, live),
+        }
+    }
+
+    /// The answer of words and roots that are not surveyed by tables that were lent.
+    pub fn unlent(fault: LentFault) -> Answer
+        ensures { result ≡ of_lent fault }
+    {
+        match fault {
+            LentFault::ShortTables(room) => Answer::bare(30, room),
+            LentFault::Survey(fault) => Answer::unsurveyed(fault),
+        }
+    }
+
+    /// The answer of a heap that is not collected by tables that were lent.
+    pub fn uncollected_lent(fault: CollectLentFault) -> Answer
+        ensures { result ≡ of_collect_lent fault }
+    {
+        match fault {
+            CollectLentFault::ShortTables(room) => Answer::bare(30, room),
+            CollectLentFault::Collect(fault) => Answer::uncollected(fault),
         }
     }
 }

@@ -1,13 +1,14 @@
 //! Calls of a mutator by its handle.
-ghost use Rattle.std.specs.Prelude.{◌≡◌, min};
+ghost use Rattle.std.specs.Prelude.{◌≡◌};
 ghost use Rattle.comp_crew.specs.Members.{IsMember};
-ghost use Rattle.comp_handle.specs.Calling.{Calls, Does, HasMade, IsRoot, Touches};
+ghost use Rattle.comp_handle.specs.Calling.{Calls, Does, IsRoot, Touches};
+ghost use Rattle.comp_handle.specs.declared.calling.Call.TheVariants as calls;
 
 use crate::answer::Answer;
 use crate::handle::Handle;
 use crate::kept::Kept;
 use comp_crew::{Member, Refusal, Touched};
-use heap_layout::Kind;
+use heap_layout::{Header, Kind};
 use std::alloc::Global;
 
 /// A call of a mutator.
@@ -25,27 +26,14 @@ pub enum Call {
     WriteWeak(u64, u32, u64),
     /// Writes a data field: the object, the field's index and the value.
     WriteData(u64, u32, u64),
-    /// Makes an object: the numbers of references, of weak words and of data words, and the tag. A number above 65,535
-    /// is taken as 65,535.
-    Alloc(u32, u32, u32, u32),
+    /// Makes an object with this header word.
+    Alloc(u64),
     /// Builds a page if nobody has.
     Touch(u64),
     /// The forwarded root with this number.
     Root(u64),
-    /// How many pages there are.
-    Pages,
-    /// How many compacted pages there are.
-    CompactedPages,
-    /// The mutator's number.
-    Number,
-    /// How many pages the mutator built.
-    BuildCount,
-    /// The page that it built as the one with this number.
+    /// The page that the mutator built as the one with this number.
     Build(u64),
-    /// How many entries the mutator wrote.
-    EntryCount,
-    /// How many words all objects have that the mutator allocated.
-    MadeWords,
 }
 
 // Builds a page if nobody has. The answer is 1 if this call built it, else 0.
@@ -60,7 +48,7 @@ fn touch(alloc: Global, m: &mut Member, p: u64) -> Answer
     match m.try_touch(alloc, p) {
         Ok(Touched::Built) => Answer::done(1),
         Ok(Touched::AlreadyBuilt) => Answer::done(0),
-        Err(refusal) => Answer::refused(refusal),
+        Err(refusal) => Answer::refused(0, refusal),
     }
 }
 
@@ -76,18 +64,15 @@ fn root(m: &Member, i: u64) -> Answer
     }
 }
 
-// How many words all objects have that the mutator allocated.
-fn made_words(m: &Member) -> Answer
-    ensures { HasMade m.now result }
+// Makes an object with this header word.
+#[inline(always)]
+fn alloc_word(alloc: Global, m: &mut Member, word: u64) -> Answer
+    requires { IsMember m.old }
+    ensures of { IsMember m.new }
+    ensures does { Does (calls.Alloc word) m.old m.new result }
 {
-    Answer::done(m.made_words())
-}
-
-// The count, or 65,535 if it is larger.
-fn in_16_bits(count: u32) -> u16
-    ensures { result ≡ min count 65535 }
-{
-    count.min(65_535) as u16
+    let size = Header::from_word_of(m.edition(), word).size();
+    Answer::of(size, m.try_alloc_word(alloc, word))
 }
 
 // Makes a call.
@@ -99,40 +84,39 @@ fn perform(alloc: Global, m: &mut Member, call: Call) -> Answer
 {
     match call {
         Call::ReadRef(object, field) => {
-            Answer::of(m.try_read_referring(alloc, Kind::Reference, object, field))
+            Answer::of(
+                field,
+                m.try_read_referring(alloc, Kind::Reference, object, field),
+            )
         }
         Call::ReadWeak(object, field) => {
-            Answer::of(m.try_read_referring(alloc, Kind::Weak, object, field))
+            Answer::of(
+                field,
+                m.try_read_referring(alloc, Kind::Weak, object, field),
+            )
         }
-        Call::ReadData(object, field) => Answer::of(m.try_read_data_at(alloc, object, field)),
+        Call::ReadData(object, field) => {
+            Answer::of(field, m.try_read_data_at(alloc, object, field))
+        }
         Call::WriteRef(object, field, value) => {
-            Answer::of(m.try_write_referring(alloc, Kind::Reference, object, field, value))
+            Answer::of(
+                field,
+                m.try_write_referring(alloc, Kind::Reference, object, field, value),
+            )
         }
         Call::WriteWeak(object, field, value) => {
-            Answer::of(m.try_write_referring(alloc, Kind::Weak, object, field, value))
+            Answer::of(
+                field,
+                m.try_write_referring(alloc, Kind::Weak, object, field, value),
+            )
         }
         Call::WriteData(object, field, value) => {
-            Answer::of(m.try_write_data_at(alloc, object, field, value))
+            Answer::of(field, m.try_write_data_at(alloc, object, field, value))
         }
-        Call::Alloc(refs, weak, data_words, tag) => {
-            let made = m.try_alloc_weak(
-                alloc,
-                in_16_bits(refs),
-                in_16_bits(weak),
-                in_16_bits(data_words),
-                tag,
-            );
-            Answer::of(made)
-        }
+        Call::Alloc(word) => alloc_word(alloc, m, word),
         Call::Touch(p) => touch(alloc, m, p),
         Call::Root(i) => root(m, i),
-        Call::Pages => Answer::done(m.pages()),
-        Call::CompactedPages => Answer::done(m.compacted_pages()),
-        Call::Number => Answer::done(u64::from(m.number())),
-        Call::BuildCount => Answer::done(m.builds().len() as u64),
-        Call::Build(i) => Answer::place(m.builds(), i, 24),
-        Call::EntryCount => Answer::done(m.entries()),
-        Call::MadeWords => made_words(m),
+        Call::Build(i) => Answer::place(m.builds(), i, 23),
     }
 }
 
@@ -146,7 +130,7 @@ pub fn make_call(alloc: Global, h: &mut Handle, call: Call) -> Answer
     };
     let answer = match kept.as_mut() {
         Kept::Mutator(m) => perform(alloc, m, call),
-        _ => Answer::bare(11, 0),
+        _ => Answer::bare(255, 0),
     };
     h.put_back(kept);
     answer

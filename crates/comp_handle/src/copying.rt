@@ -1,11 +1,11 @@
 //! Lists are copied into buffers of C.
 ghost use Rattle.std.specs.Prelude.{◌≡◌};
-ghost use Rattle.comp_handle.specs.Copying.{AsksInto, CopiesAll, CopiesEndRoots, CopiesRoots};
-ghost use Rattle.comp_handle.specs.Ending.{LooksInto};
+ghost use Rattle.comp_handle.specs.Copying.{CopiesAll, CopiesEndRoots, CopiesRoots};
+ghost use Rattle.comp_handle.specs.Kinds.{end_in, mutator_in, Asks};
 
 use crate::answer::Answer;
 use crate::handle::Handle;
-use crate::kept::Kept;
+use crate::kinds::{as_end, as_mutator};
 use comp_crew::{Ended, Member};
 use std::alloc::Global;
 
@@ -15,7 +15,7 @@ fn copy_numbers(list: &[u64], out: &mut [u64]) -> Answer
 {
     let count = list.len();
     if out.len() < count {
-        return Answer::bare(23, count as u64);
+        return Answer::bare(22, count as u64);
     }
     out[..count].copy_from_slice(list);
     Answer::done(count as u64)
@@ -27,7 +27,7 @@ pub(crate) fn copy_bytes(list: &[u8], out: &mut [u8]) -> Answer
 {
     let count = list.len();
     if out.len() < count {
-        return Answer::bare(23, count as u64);
+        return Answer::bare(22, count as u64);
     }
     out[..count].copy_from_slice(list);
     Answer::done(count as u64)
@@ -44,14 +44,14 @@ fn copy_roots(m: &Member, out: &mut [u64]) -> Answer
 /// the buffer is too short, it stays as it was.
 pub fn mutator_roots(alloc: Global, h: &mut Handle, out: &mut [u64]) -> Answer
     ensures same { h.new.kept ≡ h.old.kept }
-    ensures copies { AsksInto (CopiesRoots out.old out.new) (out.new ≡ out.old) h.old.kept result }
+    ensures copies { Asks 0 mutator_in (CopiesRoots out.old out.new) (out.new ≡ out.old) h.old.kept result }
 {
     let Some(kept) = h.take(alloc) else {
         return Answer::bare(10, 0);
     };
-    let answer = match kept.as_ref() {
-        Kept::Mutator(m) => copy_roots(m, out),
-        _ => Answer::bare(11, 0),
+    let answer = match as_mutator(kept.as_ref()) {
+        Some(m) => copy_roots(m, out),
+        None => Answer::bare(255, 0),
     };
     h.put_back(kept);
     answer
@@ -68,14 +68,14 @@ fn copy_end_roots(e: &Ended, out: &mut [u64]) -> Answer
 /// too short, it stays as it was.
 pub fn end_roots(alloc: Global, h: &mut Handle, out: &mut [u64]) -> Answer
     ensures same { h.new.kept ≡ h.old.kept }
-    ensures copies { LooksInto (CopiesEndRoots out.old out.new) (out.new ≡ out.old) h.old.kept result }
+    ensures copies { Asks 0 end_in (CopiesEndRoots out.old out.new) (out.new ≡ out.old) h.old.kept result }
 {
     let Some(kept) = h.take(alloc) else {
         return Answer::bare(10, 0);
     };
-    let answer = match kept.as_ref() {
-        Kept::Ended(e) => copy_end_roots(e, out),
-        _ => Answer::bare(11, 0),
+    let answer = match as_end(kept.as_ref()) {
+        Some(e) => copy_end_roots(e, out),
+        None => Answer::bare(255, 0),
     };
     h.put_back(kept);
     answer

@@ -1,33 +1,53 @@
 //! A crew by its handle: it is made by a flip, its mutators go out to threads, and come back.
-ghost use Rattle.std.specs.Prelude.{◌≡◌, ◌↔◌, Some, IfErr, IfOk, true};
-ghost use Rattle.comp_crew.specs.Members.{AreBadCounts, IsMember};
-ghost use Rattle.comp_handle.specs.Crewing.{planned, Flips, FlipsOf, IsUnflipped, IsUnshared, Leaves, Takes};
+ghost use Rattle.std.specs.Prelude.{◌≡◌, ◌↔◌, ◌≤◌, ◌⊎◌, None, Some, IfErr, IfOk, IsFalse, IsTrue, MatchResult};
+ghost use Rattle.comp_crew.specs.Benches.{IsBench, IsTaken};
+ghost use Rattle.comp_crew.specs.Members.{IsMember};
+ghost use Rattle.comp_handle.specs.Answers.{bare};
+ghost use Rattle.comp_handle.specs.Crewing.{most_fresh, Flips, FlipsOf, IsCount, IsUnflipped, IsUnshared, IsUnsplit, IsUntaken, Splits, Takes};
 ghost use Rattle.comp_handle.specs.Keeping.{IsKept};
+ghost use Rattle.comp_handle.specs.Kinds.{plan_in};
 
 use crate::answer::Answer;
 use crate::handle::Handle;
 use crate::kept::Kept;
-use crate::opening::{Opened, close, keep, open};
-use comp_crew::{CrewFault, Member, flip};
-use heap_layout::{Edition, MAX_MUTATORS};
+use crate::kinds::{as_plan, into_crew};
+use crate::opening::{Opened, close, is_full, keep, open};
+use comp_crew::{Bench, Member, flip};
+use heap_layout::MAX_MUTATORS;
 use page_plan::Plan;
 use std::alloc::Global;
 use std::sync::Arc;
 
-// Whether no crew may have these counts.
-fn are_bad(edition: Edition, n: u32, fresh_pages: u32) -> bool
-    ensures { result ≡ true ↔ AreBadCounts edition n fresh_pages }
+// Whether a crew may have so many mutators.
+fn is_count(n: u32) -> bool
+    ensures { IsTrue result ↔ IsCount n }
 {
-    n < 1 || n > MAX_MUTATORS || fresh_pages > edition.max_fresh_pages()
+    n >= 1 && n <= MAX_MUTATORS
+}
+
+/// The most fresh pages of a flip of the heap of this plan.
+#[tactic(auto, using(heap_layout::proofs::Bounds::pages_most))]
+pub(crate) fn most_fresh(plan: &Plan) -> u64
+    ensures { result ≡ most_fresh plan.now }
+{
+    let edition = plan.heap().edition();
+    let most = edition.max_fresh_pages();
+    let rest = u64::from(edition.max_pages() - most) - plan.pages();
+    u64::from(most).min(rest)
 }
 
 // A share of a plan, for a crew of these counts.
 fn share(plan: &Arc<Plan>, n: u32, fresh_pages: u32) -> Result<Arc<Plan>, Answer>
     ensures plan { IfOk result (λ own. own.value ≡ plan.now.value) }
+    ensures good { IfOk result (λ _. IsCount n × (fresh_pages ≤ most_fresh plan.now.value)) }
     ensures none { IfErr result (IsUnflipped plan.now.value n fresh_pages) }
 {
-    if are_bad(plan.heap().edition(), n, fresh_pages) {
-        return Err(Answer::bare(14, 0));
+    if !is_count(n) {
+        return Err(Answer::bare(14, u64::from(n)));
+    }
+    let most = most_fresh(&**plan);
+    if u64::from(fresh_pages) > most {
+        return Err(Answer::bare(15, most));
     }
     match Arc::try_clone(plan) {
         Ok(plan) => Ok(plan),
@@ -35,24 +55,46 @@ fn share(plan: &Arc<Plan>, n: u32, fresh_pages: u32) -> Result<Arc<Plan>, Answer
     }
 }
 
+// The same for a plan that is kept, given whether the handle of the crew is full.
+fn share_for(plan: &Arc<Plan>, full: bool, n: u32, fresh_pages: u32) -> Result<Arc<Plan>, Answer>
+    ensures plan { IfOk result (λ own. own.value ≡ plan.now.value) }
+    ensures good { IfOk result (λ _. IsCount n × (fresh_pages ≤ most_fresh plan.now.value)) }
+    ensures free { IfOk result (λ _. IsFalse full) }
+    ensures none { IfErr result (λ a. (IsTrue full × (a ≡ bare 11 1)) ⊎ (IsFalse full × IsUnflipped plan.now.value n fresh_pages a)) }
+{
+    if full {
+        Err(Answer::bare(11, 1))
+    } else {
+        share(plan, n, fresh_pages)
+    }
+}
+
 // A share of the plan that the handle keeps, for a crew of these counts. The handle stays as it is.
-fn plan_of(alloc: Global, h: &mut Handle, n: u32, fresh_pages: u32) -> Result<Arc<Plan>, Answer>
+fn plan_of(
+    alloc: Global,
+    h: &mut Handle,
+    full: bool,
+    n: u32,
+    fresh_pages: u32,
+) -> Result<Arc<Plan>, Answer>
     ensures same { h.new.kept ≡ h.old.kept }
-    ensures plan { IfOk result (λ plan. planned h.old.kept ≡ Some plan.value) }
-    ensures none { IfErr result (IsUnshared n fresh_pages h.old.kept) }
+    ensures plan { IfOk result (λ plan. plan_in h.old.kept ≡ Some plan.value) }
+    ensures good { IfOk result (λ plan. IsCount n × (fresh_pages ≤ most_fresh plan.value)) }
+    ensures free { IfOk result (λ _. IsFalse full) }
+    ensures none { IfErr result (IsUnshared full n fresh_pages h.old.kept) }
 {
     let Some(kept) = h.take(alloc) else {
         return Err(Answer::bare(10, 0));
     };
-    let plan = match kept.as_ref() {
-        Kept::Plan(plan) => share(plan, n, fresh_pages),
-        _ => Err(Answer::bare(11, 0)),
+    let plan = match as_plan(kept.as_ref()) {
+        Some(plan) => share_for(plan, full, n, fresh_pages),
+        None => Err(Answer::bare(255, 0)),
     };
     h.put_back(kept);
     plan
 }
 
-// Flips the heap of a plan for a crew.
+// Flips the heap of a plan for a crew of good counts, whose handle is empty.
 fn flip_plan(
     alloc: Global,
     plan: Arc<Plan>,
@@ -61,12 +103,12 @@ fn flip_plan(
     fresh_pages: u32,
     crew: &mut Handle,
 ) -> Answer
-    ensures { FlipsOf plan.value name n fresh_pages crew.old.kept crew.new.kept result }
+    requires count { IsCount n }
+    requires few { fresh_pages ≤ most_fresh plan.value }
+    requires empty { crew.old.kept ≡ None }
+    ensures { FlipsOf plan.value name n fresh_pages crew.new.kept result }
 {
-    let Ok(count) = u8::try_from(n) else {
-        return Answer::bare(14, 0);
-    };
-    match flip(alloc, plan, name, count, fresh_pages) {
+    match flip(alloc, plan, name, n as u8, fresh_pages) {
         Ok(bench) => {
             if keep(alloc, crew, Kept::Crew(bench)) {
                 Answer::done(u64::from(n))
@@ -74,14 +116,14 @@ fn flip_plan(
                 Answer::bare(9, 0)
             }
         }
-        Err(CrewFault::BadCounts) => Answer::bare(14, 0),
-        Err(CrewFault::OutOfMemory) => Answer::bare(9, 0),
+        Err(_) => Answer::bare(9, 0),
     }
 }
 
 /// Flips the heap of the plan that a handle keeps, for a new crew of this name, of `n` mutators, with `fresh_pages`
-/// fresh pages. The handle of the crew keeps all mutators then. The handle of the plan stays as it is. Counts that no
-/// crew may have are refused first, whatever memory there is.
+/// fresh pages, which goes into an empty handle, with all its mutators. The handle of the plan stays as it is. Bad
+/// numbers of mutators are refused first, then more fresh pages than a next heap has room for, whatever memory there
+/// is.
 pub fn flip_crew(
     alloc: Global,
     plan: &mut Handle,
@@ -93,62 +135,90 @@ pub fn flip_crew(
     ensures same { plan.new.kept ≡ plan.old.kept }
     ensures flips { Flips name n fresh_pages plan.old.kept crew.old.kept crew.new.kept result }
 {
-    match plan_of(alloc, plan, n, fresh_pages) {
+    let full = is_full(alloc, crew);
+    match plan_of(alloc, plan, full, n, fresh_pages) {
         Ok(plan) => flip_plan(alloc, plan, name, n, fresh_pages, crew),
         Err(answer) => answer,
     }
+}
+
+// A mutator that was taken, and the box for it.
+#[derive(Drop)]
+struct Seated {
+    seat: Box<Kept>,
+    member: Member,
 }
 
 // What a handle keeps after a mutator was taken, and the mutator, or why there is none.
 #[derive(Drop)]
 struct Split {
     kept: Kept,
-    member: Result<Member, Answer>,
+    taken: Result<Seated, Answer>,
 }
 
-fn split_off(kept: Kept) -> Split
-    requires { IsKept kept }
-    ensures kept { IsKept result.kept }
-    ensures member { IfOk result.member IsMember }
-    ensures leaves { Leaves kept result.kept result.member }
+// Takes the mutator that came last out of a crew, with a box for it.
+fn seat_one(alloc: Global, bench: &mut Bench) -> Result<Seated, Answer>
+    requires { IsBench bench.old }
+    ensures bench { IsBench bench.new }
+    ensures taken { IfOk result (λ seated. IsTaken bench.old bench.new (Some seated.member)) }
+    ensures untaken { IfErr result (λ a. (bench.new ≡ bench.old) × IsUntaken bench.old a) }
 {
-    let mut bench = match kept {
-        Kept::Crew(bench) => bench,
-        other => {
-            return Split {
-                kept: other,
-                member: Err(Answer::bare(11, 0)),
-            };
-        }
+    if bench.is_empty() {
+        return Err(Answer::bare(18, 0));
+    }
+    let Ok(seat) = Box::new(alloc, Kept::Nothing) else {
+        return Err(Answer::bare(9, 0));
     };
-    let member = match bench.take() {
-        Ok(Some(m)) => Ok(m),
+    match bench.take() {
+        Ok(Some(member)) => Ok(Seated { seat, member }),
         Ok(None) => Err(Answer::bare(18, 0)),
         Err(_) => Err(Answer::bare(9, 0)),
-    };
-    Split {
-        kept: Kept::Crew(bench),
-        member,
     }
 }
 
-/// Takes the mutator that was handed back last out of the crew that a handle keeps; another handle keeps that mutator
-/// then. The answer has the mutator's number. If it is refused, neither handle has changed.
+fn split_off(alloc: Global, kept: Kept, full: bool) -> Split
+    requires { IsKept kept }
+    ensures kept { IsKept result.kept }
+    ensures member { IfOk result.taken (λ seated. IsMember seated.member) }
+    ensures free { IfOk result.taken (λ _. IsFalse full) }
+    ensures splits { MatchResult result.taken (λ seated. Splits kept result.kept seated.member) (λ a. (result.kept ≡ kept) × IsUnsplit full kept a) }
+{
+    let mut bench = match into_crew(kept) {
+        Ok(bench) => bench,
+        Err(kept) => {
+            return Split {
+                kept,
+                taken: Err(Answer::bare(255, 0)),
+            };
+        }
+    };
+    let taken = if full {
+        Err(Answer::bare(11, 1))
+    } else {
+        seat_one(alloc, &mut bench)
+    };
+    Split {
+        kept: Kept::Crew(bench),
+        taken,
+    }
+}
+
+/// Takes the mutator that was handed back last out of the crew that a handle keeps; another handle, which was empty,
+/// keeps that mutator then. The answer has the mutator's number. If it is refused, neither handle has changed. That
+/// there is no mutator is answered whatever memory there is.
 pub fn take_member(alloc: Global, crew: &mut Handle, out: &mut Handle) -> Answer
     ensures { Takes crew.old.kept crew.new.kept out.old.kept out.new.kept result }
 {
-    let Ok(seat) = Box::new(alloc, Kept::Nothing) else {
-        return Answer::bare(9, 0);
-    };
+    let full = is_full(alloc, out);
     let Some(Opened { room, kept }) = open(alloc, crew) else {
         return Answer::bare(10, 0);
     };
-    let Split { kept, member } = split_off(kept);
+    let Split { kept, taken } = split_off(alloc, kept, full);
     close(crew, room, kept);
-    match member {
-        Ok(m) => {
-            let number = m.number();
-            close(out, seat, Kept::Mutator(m));
+    match taken {
+        Ok(Seated { seat, member }) => {
+            let number = member.number();
+            close(out, seat, Kept::Mutator(member));
             Answer::done(u64::from(number))
         }
         Err(answer) => answer,

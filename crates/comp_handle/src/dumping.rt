@@ -2,14 +2,14 @@
 ghost use Rattle.std.specs.Prelude.{◌≡◌, IfOk, OnOk};
 ghost use Rattle.comp_crew.specs.Finishing.{IsEnded};
 ghost use Rattle.comp_dump.specs.DumpEncoding.{dump_bytes};
-ghost use Rattle.comp_handle.specs.Dumping.{dump_of, IsLawful, SizesDump, WritesDump};
+ghost use Rattle.comp_handle.specs.Dumping.{dump_of, IsLawful, WritesDump};
 ghost use Rattle.comp_handle.specs.Copying.{WritesBytes};
-ghost use Rattle.comp_handle.specs.Ending.{Looks, LooksInto};
+ghost use Rattle.comp_handle.specs.Kinds.{end_in, Asks};
 
 use crate::answer::Answer;
 use crate::copying::copy_bytes;
 use crate::handle::Handle;
-use crate::kept::Kept;
+use crate::kinds::as_end;
 use crate::sizes::dump_len;
 use comp_crew::Ended;
 use comp_dump::{Dump, write_dump};
@@ -39,40 +39,13 @@ fn dump_at<'a>(alloc: Global, e: &'a Ended) -> Result<Dump<'a>, OutOfMemory>
     Ok(dump)
 }
 
-// How many bytes it has.
-fn size_of(alloc: Global, e: &Ended) -> Answer
-    requires { IsEnded e.now }
-    ensures { SizesDump e.now result }
-{
-    match dump_at(alloc, e) {
-        Ok(dump) => Answer::done(dump_len(&dump)),
-        Err(_) => Answer::bare(9, 0),
-    }
-}
-
-/// How many bytes the dump of the finished heap has that a handle keeps.
-pub fn dump_size(alloc: Global, h: &mut Handle) -> Answer
-    ensures same { h.new.kept ≡ h.old.kept }
-    ensures sizes { Looks SizesDump h.old.kept result }
-{
-    let Some(kept) = h.take(alloc) else {
-        return Answer::bare(10, 0);
-    };
-    let answer = match kept.as_ref() {
-        Kept::Ended(e) => size_of(alloc, e),
-        _ => Answer::bare(11, 0),
-    };
-    h.put_back(kept);
-    answer
-}
-
 // Copies a dump.
 fn copy_bytes_of(alloc: Global, dump: &Dump<'_>, out: &mut [u8]) -> Answer
     ensures { WritesBytes (dump_bytes dump.now) out.old out.new result }
 {
     let size = dump_len(dump);
     if (out.len() as u64) < size {
-        return Answer::bare(23, size);
+        return Answer::bare(22, size);
     }
     match bytes_of(alloc, dump, size as usize) {
         Ok(bytes) => copy_bytes(&bytes, out),
@@ -92,17 +65,18 @@ fn copy_dump(alloc: Global, e: &Ended, out: &mut [u8]) -> Answer
 }
 
 /// Copies the dump of the finished heap that a handle keeps, with the counts of its flip. The answer has the number of
-/// its bytes. If the buffer is too short, or there is no memory, the buffer stays as it was.
+/// its bytes. If the buffer is too short, the answer has that number too. Then, and if there is no memory, the buffer
+/// stays as it was.
 pub fn copy_dump_of(alloc: Global, h: &mut Handle, out: &mut [u8]) -> Answer
     ensures same { h.new.kept ≡ h.old.kept }
-    ensures copies { LooksInto (WritesDump out.old out.new) (out.new ≡ out.old) h.old.kept result }
+    ensures copies { Asks 0 end_in (WritesDump out.old out.new) (out.new ≡ out.old) h.old.kept result }
 {
     let Some(kept) = h.take(alloc) else {
         return Answer::bare(10, 0);
     };
-    let answer = match kept.as_ref() {
-        Kept::Ended(e) => copy_dump(alloc, e, out),
-        _ => Answer::bare(11, 0),
+    let answer = match as_end(kept.as_ref()) {
+        Some(e) => copy_dump(alloc, e, out),
+        None => Answer::bare(255, 0),
     };
     h.put_back(kept);
     answer

@@ -1,12 +1,12 @@
 //! What is left of a crew, by its handle.
 ghost use Rattle.std.specs.Prelude.{◌≡◌, None, Some, MatchOption};
-ghost use Rattle.comp_crew.specs.Finishes.{roots_of};
-ghost use Rattle.comp_crew.specs.Finishing.{finished_of};
-ghost use Rattle.comp_handle.specs.Ending.{built_by, kind_number, pages_at_end, CopiesEntry, CopiesPage, IsBuildOf, IsCountOf, IsRootOf, Looks, LooksInto, Tells};
+ghost use Rattle.comp_handle.specs.Ending.{built_by, pages_at_end, CopiesEntry, CopiesPage, IsBuildOf, IsCountOf, Tells};
+ghost use Rattle.comp_dump.specs.Codes.{kind_code};
+ghost use Rattle.comp_handle.specs.Kinds.{end_in, Asks};
 
 use crate::answer::Answer;
 use crate::handle::Handle;
-use crate::kept::Kept;
+use crate::kinds::as_end;
 use comp_crew::Ended;
 use heap_layout::Kind;
 use std::alloc::Global;
@@ -14,28 +14,10 @@ use std::alloc::Global;
 /// A question about a finished heap.
 #[derive(Clone, Copy)]
 pub enum Question {
-    /// How many words its objects have.
-    LiveWords,
-    /// How many pages there are.
-    PageCount,
-    /// Where the root with this number leads.
-    EndRoot(u64),
     /// How many pages the mutator of this number built.
     EndBuildCount(u32),
     /// The page that the mutator of this number built as the one with the second number.
     EndBuild(u32, u64),
-}
-
-// The root with this number.
-fn end_root(e: &Ended, i: u64) -> Answer
-    ensures { IsRootOf i (roots_of (finished_of e.now)) result }
-{
-    let roots = e.finished().roots();
-    if i < roots.len() as u64 {
-        Answer::done(roots[i as usize])
-    } else {
-        Answer::bare(13, i)
-    }
 }
 
 // The pages that the mutator of this number built. None if there is no such mutator.
@@ -54,7 +36,7 @@ fn build_count(e: &Ended, k: u32) -> Answer
 {
     match built(e, k) {
         Some(list) => Answer::done(list.len() as u64),
-        None => Answer::bare(25, u64::from(k)),
+        None => Answer::bare(24, u64::from(k)),
     }
 }
 
@@ -63,8 +45,8 @@ fn build_at(e: &Ended, k: u32, i: u64) -> Answer
     ensures { IsBuildOf k i (built_by e.now k) result }
 {
     match built(e, k) {
-        Some(list) => Answer::place(list, i, 24),
-        None => Answer::bare(25, u64::from(k)),
+        Some(list) => Answer::place(list, i, 23),
+        None => Answer::bare(24, u64::from(k)),
     }
 }
 
@@ -73,9 +55,6 @@ fn look(e: &Ended, question: Question) -> Answer
     ensures { Tells question e.now result }
 {
     match question {
-        Question::LiveWords => Answer::done(e.finished().live_words()),
-        Question::PageCount => Answer::done(e.finished().pages().len() as u64),
-        Question::EndRoot(i) => end_root(e, i),
         Question::EndBuildCount(k) => build_count(e, k),
         Question::EndBuild(k, i) => build_at(e, k, i),
     }
@@ -84,14 +63,14 @@ fn look(e: &Ended, question: Question) -> Answer
 /// Answers a question about the finished heap that a handle keeps.
 pub fn ask(alloc: Global, h: &mut Handle, question: Question) -> Answer
     ensures same { h.new.kept ≡ h.old.kept }
-    ensures looks { Looks (Tells question) h.old.kept result }
+    ensures looks { Asks 0 end_in (Tells question) (Unit {0}) h.old.kept result }
 {
     let Some(kept) = h.take(alloc) else {
         return Answer::bare(10, 0);
     };
-    let answer = match kept.as_ref() {
-        Kept::Ended(e) => look(e, question),
-        _ => Answer::bare(11, 0),
+    let answer = match as_end(kept.as_ref()) {
+        Some(e) => look(e, question),
+        None => Answer::bare(255, 0),
     };
     h.put_back(kept);
     answer
@@ -110,7 +89,7 @@ fn copy_page(e: &Ended, p: u64, out: &mut [u64; 64]) -> Answer
             *out = page.words();
             Answer::done(page.journal().len() as u64)
         }
-        None => Answer::bare(21, p),
+        None => Answer::bare(20, p),
     }
 }
 
@@ -118,21 +97,21 @@ fn copy_page(e: &Ended, p: u64, out: &mut [u64; 64]) -> Answer
 /// journal.
 pub fn page_words(alloc: Global, h: &mut Handle, p: u64, out: &mut [u64; 64]) -> Answer
     ensures same { h.new.kept ≡ h.old.kept }
-    ensures copies { LooksInto (λ e. CopiesPage p (pages_at_end e) out.old out.new) (out.new ≡ out.old) h.old.kept result }
+    ensures copies { Asks 0 end_in (λ e. CopiesPage p (pages_at_end e) out.old out.new) (out.new ≡ out.old) h.old.kept result }
 {
     let Some(kept) = h.take(alloc) else {
         return Answer::bare(10, 0);
     };
-    let answer = match kept.as_ref() {
-        Kept::Ended(e) => copy_page(e, p, out),
-        _ => Answer::bare(11, 0),
+    let answer = match as_end(kept.as_ref()) {
+        Some(e) => copy_page(e, p, out),
+        None => Answer::bare(255, 0),
     };
     h.put_back(kept);
     answer
 }
 
-/// An entry of a journal, as C sees it. The kind is 0 for a header, 1 for a reference, 2 for a weak word and 3 for a
-/// data word.
+/// An entry of a journal, as C sees it. The kind is 0 for a header, 1 for a reference, 2 for a data word and 3 for a
+/// weak word, as in a dump.
 #[repr(C)]
 #[derive(Clone, Copy, Debug, PartialEq, Eq)]
 pub struct Written {
@@ -150,13 +129,13 @@ pub struct Written {
 
 // The number of a kind.
 fn kind_number(kind: Kind) -> u8
-    ensures { result ≡ kind_number kind }
+    ensures { result ≡ kind_code kind }
 {
     match kind {
         Kind::Header => 0,
         Kind::Reference => 1,
-        Kind::Weak => 2,
-        Kind::Data => 3,
+        Kind::Data => 2,
+        Kind::Weak => 3,
     }
 }
 
@@ -169,11 +148,11 @@ fn copy_entry(e: &Ended, p: u64, i: u64, out: &mut Written) -> Answer
         return Answer::bare(12, p);
     }
     let Some(page) = pages.page(p as usize) else {
-        return Answer::bare(21, p);
+        return Answer::bare(20, p);
     };
     let journal = page.journal();
     if i >= journal.len() as u64 {
-        return Answer::bare(22, i);
+        return Answer::bare(21, i);
     }
     let entry = journal[i as usize];
     *out = Written {
@@ -189,14 +168,14 @@ fn copy_entry(e: &Ended, p: u64, i: u64, out: &mut Written) -> Answer
 /// Copies an entry of the journal of a page of the finished heap that a handle keeps.
 pub fn page_entry(alloc: Global, h: &mut Handle, p: u64, i: u64, out: &mut Written) -> Answer
     ensures same { h.new.kept ≡ h.old.kept }
-    ensures copies { LooksInto (λ e. CopiesEntry p i (pages_at_end e) out.old out.new) (out.new ≡ out.old) h.old.kept result }
+    ensures copies { Asks 0 end_in (λ e. CopiesEntry p i (pages_at_end e) out.old out.new) (out.new ≡ out.old) h.old.kept result }
 {
     let Some(kept) = h.take(alloc) else {
         return Answer::bare(10, 0);
     };
-    let answer = match kept.as_ref() {
-        Kept::Ended(e) => copy_entry(e, p, i, out),
-        _ => Answer::bare(11, 0),
+    let answer = match as_end(kept.as_ref()) {
+        Some(e) => copy_entry(e, p, i, out),
+        None => Answer::bare(255, 0),
     };
     h.put_back(kept);
     answer

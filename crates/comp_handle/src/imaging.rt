@@ -1,19 +1,21 @@
 //! Images of heaps are read and written.
-ghost use Rattle.std.specs.Prelude.{◌≡◌, true, length, IfErr, IfOk};
+ghost use Rattle.std.specs.Prelude.{◌≡◌, true, length, None, IfErr, IfOk};
 ghost use Rattle.heap_layout.specs.Encoding.{encoding, RefusesBy};
 ghost use Rattle.heap_layout.specs.Faults.{IsAccepted};
-ghost use Rattle.comp_handle.specs.Imaging.{HasHeap, ReadsImage, SizesImage, WritesImage};
+ghost use Rattle.comp_handle.specs.Imaging.{ReadsHeap, ReadsImage, WritesImage};
+ghost use Rattle.comp_handle.specs.Kinds.{heap_in, Asks};
 
 use crate::answer::Answer;
 use crate::copying::copy_bytes;
 use crate::handle::Handle;
 use crate::kept::Kept;
-use crate::opening::keep;
+use crate::kinds::as_heap;
+use crate::opening::{is_full, keep};
 use heap_layout::{Counted, LayoutFault, MarkedHeap, OutOfMemory, read_large_image};
 use std::alloc::Global;
 
 // The heap whose image these bytes are.
-fn heap_in(alloc: Global, bytes: &[u8]) -> Result<MarkedHeap, LayoutFault>
+fn heap_of(alloc: Global, bytes: &[u8]) -> Result<MarkedHeap, LayoutFault>
     ensures image { IfOk result (λ heap. bytes.now ≡ encoding heap) }
     ensures accepted { IfOk result IsAccepted }
     ensures cause { IfErr result (λ fault. RefusesBy true fault bytes.now) }
@@ -21,12 +23,12 @@ fn heap_in(alloc: Global, bytes: &[u8]) -> Result<MarkedHeap, LayoutFault>
     read_large_image(alloc, &mut Counted::new(bytes))
 }
 
-/// Reads the image of a heap of any edition; the handle keeps that heap then. If it is refused, the handle stays as it
-/// is.
-pub fn read_image(alloc: Global, out: &mut Handle, bytes: &[u8]) -> Answer
-    ensures { ReadsImage bytes.now out.old.kept out.new.kept result }
+// Reads the image of a heap into a handle, which is empty.
+fn read_into(alloc: Global, bytes: &[u8], out: &mut Handle) -> Answer
+    requires { out.old.kept ≡ None }
+    ensures { ReadsHeap bytes.now out.new.kept result }
 {
-    match heap_in(alloc, bytes) {
+    match heap_of(alloc, bytes) {
         Ok(heap) => {
             if keep(alloc, out, Kept::Heap(heap)) {
                 Answer::done(0)
@@ -38,6 +40,17 @@ pub fn read_image(alloc: Global, out: &mut Handle, bytes: &[u8]) -> Answer
     }
 }
 
+/// Reads the image of a heap of any edition; the handle, which was empty, keeps that heap then. If it is refused, the
+/// handle stays as it is.
+pub fn read_image(alloc: Global, bytes: &[u8], out: &mut Handle) -> Answer
+    ensures { ReadsImage bytes.now out.old.kept out.new.kept result }
+{
+    if is_full(alloc, out) {
+        return Answer::bare(11, 0);
+    }
+    read_into(alloc, bytes, out)
+}
+
 // How many bytes the image of a heap has.
 #[tactic(auto, using(heap_layout::proofs::Bounds::words_most, heap_layout::proofs::Bounds::roots_most, crate::proofs::Lengths::image_len))]
 fn size_of(heap: &MarkedHeap) -> u64
@@ -46,22 +59,6 @@ fn size_of(heap: &MarkedHeap) -> u64
     24 + 8 * heap.words().len() as u64
         + 4 * heap.marks().len() as u64
         + 8 * heap.roots().len() as u64
-}
-
-/// How many bytes the image of the heap has that a handle keeps.
-pub fn image_size(alloc: Global, h: &mut Handle) -> Answer
-    ensures same { h.new.kept ≡ h.old.kept }
-    ensures sizes { HasHeap SizesImage (Unit {0}) h.old.kept result }
-{
-    let Some(kept) = h.take(alloc) else {
-        return Answer::bare(10, 0);
-    };
-    let answer = match kept.as_ref() {
-        Kept::Heap(heap) => Answer::done(size_of(heap)),
-        _ => Answer::bare(11, 0),
-    };
-    h.put_back(kept);
-    answer
 }
 
 // The image of a heap, of this many bytes.
@@ -81,7 +78,7 @@ fn copy_image(alloc: Global, heap: &MarkedHeap, out: &mut [u8]) -> Answer
 {
     let size = size_of(heap);
     if (out.len() as u64) < size {
-        return Answer::bare(23, size);
+        return Answer::bare(22, size);
     }
     match image_of(alloc, heap, size as usize) {
         Ok(image) => copy_bytes(&image, out),
@@ -90,17 +87,17 @@ fn copy_image(alloc: Global, heap: &MarkedHeap, out: &mut [u8]) -> Answer
 }
 
 /// Copies the image of the heap that a handle keeps. The answer has the number of its bytes. If the buffer is too
-/// short, or there is no memory, the buffer stays as it was.
+/// short, the answer has that number too. Then, and if there is no memory, the buffer stays as it was.
 pub fn write_image(alloc: Global, h: &mut Handle, out: &mut [u8]) -> Answer
     ensures same { h.new.kept ≡ h.old.kept }
-    ensures copies { HasHeap (WritesImage out.old out.new) (out.new ≡ out.old) h.old.kept result }
+    ensures copies { Asks 0 heap_in (WritesImage out.old out.new) (out.new ≡ out.old) h.old.kept result }
 {
     let Some(kept) = h.take(alloc) else {
         return Answer::bare(10, 0);
     };
-    let answer = match kept.as_ref() {
-        Kept::Heap(heap) => copy_image(alloc, heap, out),
-        _ => Answer::bare(11, 0),
+    let answer = match as_heap(kept.as_ref()) {
+        Some(heap) => copy_image(alloc, heap, out),
+        None => Answer::bare(255, 0),
     };
     h.put_back(kept);
     answer

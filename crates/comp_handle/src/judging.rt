@@ -1,16 +1,20 @@
-//! A dump is judged.
-ghost use Rattle.std.specs.Prelude.{◌≡◌, true, IfErr, IfOk};
-ghost use Rattle.comp_audit.specs.Judged.{faults};
+//! A dump, or a file of words, is judged.
+ghost use Rattle.std.specs.Prelude.{◌≡◌, true, IfErr, IfOk, Ok};
+ghost use Rattle.comp_audit.specs.Judged.{Judges};
 ghost use Rattle.comp_dump.specs.Dumped.{IsStored};
 ghost use Rattle.comp_dump.specs.DumpEncoding.{dump_bytes};
 ghost use Rattle.comp_dump.specs.DumpReading.{read_whole_by, Fails};
-ghost use Rattle.comp_handle.specs.Judging.{of_audit, of_dump, HasPlan, JudgesBytes};
+ghost use Rattle.comp_dump.specs.WordsReading.{read_whole_words};
+ghost use Rattle.comp_handle.specs.Judging.{asks_whole, asks_words, faults_for, of_audit, of_dump, read_by, JudgesBy, JudgesBytes, StandsFor};
+ghost use Rattle.comp_handle.specs.Kinds.{plan_in, Asks};
 
 use crate::answer::Answer;
 use crate::handle::Handle;
-use crate::kept::Kept;
-use comp_audit::{AuditFault, Dump, DumpFault, Verdict, audit, read_large_dump};
-use heap_layout::Counted;
+use crate::kinds::as_plan;
+use comp_audit::{
+    AuditFault, Dump, DumpFault, Verdict, audit, audit_whole, read_large_dump, read_words,
+};
+use heap_layout::{Counted, OutOfMemory};
 use page_plan::Plan;
 use std::alloc::Global;
 use std::sync::Arc;
@@ -22,7 +26,7 @@ fn found(fault: AuditFault) -> Answer
     match fault {
         AuditFault::WrongWord(a) => Answer::bare(65, a),
         AuditFault::LooseReference(a) => Answer::bare(66, a),
-        AuditFault::BadEntry(p, _) => Answer::bare(67, p),
+        AuditFault::BadEntry(p, i) => Answer::two(67, p, i.min(4_294_967_295) as u32),
         AuditFault::StampRepeated(stamp) => Answer::bare(68, stamp),
         AuditFault::StampMissing(stamp) => Answer::bare(69, stamp),
         AuditFault::WrongTotal => Answer::bare(70, 0),
@@ -32,8 +36,8 @@ fn found(fault: AuditFault) -> Answer
     }
 }
 
-// The answer of bytes that are not read as a dump.
-fn unread(fault: DumpFault) -> Answer
+/// The answer of bytes that are not read as a file.
+pub(crate) fn unread(fault: DumpFault) -> Answer
     ensures { result ≡ of_dump fault }
 {
     match fault {
@@ -46,6 +50,20 @@ fn unread(fault: DumpFault) -> Answer
     }
 }
 
+/// Whether each compacted page has to be built, by these options.
+pub(crate) fn is_whole(options: u32) -> bool
+    ensures { result ≡ asks_whole options }
+{
+    options % 2 == 1
+}
+
+/// Whether the bytes are a file of words, by these options.
+pub(crate) fn is_of_words(options: u32) -> bool
+    ensures { result ≡ asks_words options }
+{
+    options >= 2
+}
+
 // The dump whose bytes these are.
 fn dump_in(alloc: Global, bytes: &[u8]) -> Result<Dump<'static>, DumpFault>
     ensures read { IfOk result (λ dump. bytes.now ≡ dump_bytes dump) }
@@ -55,40 +73,89 @@ fn dump_in(alloc: Global, bytes: &[u8]) -> Result<Dump<'static>, DumpFault>
     read_large_dump(alloc, &mut Counted::new(bytes))
 }
 
-// Judges a dump for the heap of a plan.
-fn judge(alloc: Global, plan: &Plan, bytes: &[u8]) -> Answer
-    ensures { JudgesBytes bytes.now plan.now result }
+// The dump for which these bytes stand, as a file of words.
+fn words_in(alloc: Global, bytes: &[u8]) -> Result<Dump<'static>, DumpFault>
+    ensures read { IfOk result (λ dump. read_whole_words true bytes.now ≡ Ok dump) }
+    ensures stored { IfOk result IsStored }
+    ensures cause { IfErr result (λ fault. Fails fault (read_whole_words true bytes.now)) }
 {
-    let dump = match dump_in(alloc, bytes) {
+    read_words(alloc, &mut Counted::new(bytes), true)
+}
+
+/// The dump whose bytes these are, or for which they stand as a file of words.
+pub(crate) fn read_as(alloc: Global, bytes: &[u8], words: bool) -> Result<Dump<'static>, DumpFault>
+    ensures read { IfOk result (StandsFor words bytes.now) }
+    ensures stored { IfOk result IsStored }
+    ensures cause { IfErr result (λ fault. Fails fault (read_by words bytes.now)) }
+{
+    if words {
+        words_in(alloc, bytes)
+    } else {
+        dump_in(alloc, bytes)
+    }
+}
+
+/// The verdict on a dump. Err if out of memory.
+pub(crate) fn verdict(
+    alloc: Global,
+    plan: &Plan,
+    dump: &Dump<'_>,
+    whole: bool,
+) -> Result<Verdict, OutOfMemory>
+    ensures { IfOk result (Judges (faults_for whole plan.now dump.now)) }
+{
+    if whole {
+        audit_whole(alloc, plan, dump)
+    } else {
+        audit(alloc, plan, dump)
+    }
+}
+
+// Judges bytes for the heap of a plan.
+fn judge(alloc: Global, plan: &Plan, bytes: &[u8], whole: bool, words: bool) -> Answer
+    ensures { JudgesBytes whole words bytes.now plan.now result }
+{
+    let dump = match read_as(alloc, bytes, words) {
         Ok(dump) => dump,
         Err(fault) => return unread(fault),
     };
-    match audit(alloc, plan, &dump) {
+    match verdict(alloc, plan, &dump, whole) {
         Ok(Verdict::Yes) => Answer::done(dump.live_words()),
         Ok(Verdict::No(fault)) => found(fault),
         Err(_) => unread(DumpFault::OutOfMemory),
     }
 }
 
-// The same for a share of a plan.
-fn judge_shared(alloc: Global, plan: &Arc<Plan>, bytes: &[u8]) -> Answer
-    ensures { JudgesBytes bytes.now plan.now.value result }
+// The same by these options.
+fn judge_by(alloc: Global, plan: &Plan, bytes: &[u8], options: u32) -> Answer
+    ensures { JudgesBy options bytes.now plan.now result }
 {
-    judge(alloc, &**plan, bytes)
+    if options > 3 {
+        return Answer::bare(32, u64::from(options));
+    }
+    judge(alloc, plan, bytes, is_whole(options), is_of_words(options))
+}
+
+// The same for a share of a plan.
+fn judge_shared(alloc: Global, plan: &Arc<Plan>, bytes: &[u8], options: u32) -> Answer
+    ensures { JudgesBy options bytes.now plan.now.value result }
+{
+    judge_by(alloc, &**plan, bytes, options)
 }
 
 /// Reads a dump from these bytes, and judges it for the heap whose plan a handle keeps. The answer has the live words
-/// if a compaction by this plan can have left the dump; else the first fault.
-pub fn judge_dump(alloc: Global, h: &mut Handle, bytes: &[u8]) -> Answer
+/// if a compaction by this plan can have left the dump; else the first fault. Of the options 1 asks that each compacted
+/// page was built, and 2 says that the bytes are a file of words; a number above 3 is refused first.
+pub fn judge_dump(alloc: Global, h: &mut Handle, bytes: &[u8], options: u32) -> Answer
     ensures same { h.new.kept ≡ h.old.kept }
-    ensures judges { HasPlan (JudgesBytes bytes.now) h.old.kept result }
+    ensures judges { Asks 0 plan_in (JudgesBy options bytes.now) (Unit {0}) h.old.kept result }
 {
     let Some(kept) = h.take(alloc) else {
         return Answer::bare(10, 0);
     };
-    let answer = match kept.as_ref() {
-        Kept::Plan(plan) => judge_shared(alloc, plan, bytes),
-        _ => Answer::bare(11, 0),
+    let answer = match as_plan(kept.as_ref()) {
+        Some(plan) => judge_shared(alloc, plan, bytes, options),
+        None => Answer::bare(255, 0),
     };
     h.put_back(kept);
     answer

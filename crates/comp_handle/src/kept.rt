@@ -1,7 +1,9 @@
 use comp_crew::{Bench, Ended, Member};
 use heap_layout::MarkedHeap;
+use mark_job::Job;
 use page_plan::Plan;
 use std::sync::Arc;
+use stopped_heap::{Places, Tables};
 
 /// What a handle keeps.
 #[derive(Drop)]
@@ -18,4 +20,10 @@ pub enum Kept {
     Mutator(Member),
     /// A finished heap.
     Ended(Ended),
+    /// What a survey of a heap at rest found.
+    Survey(Arc<Places>),
+    /// Tables for surveys.
+    Tables(Tables),
+    /// A job that marks a heap at rest.
+    Job(Arc<Job>),
 }

@@ -7,29 +7,53 @@ mod copying;
 mod crewing;
 mod dumping;
 mod ending;
+mod facts;
 mod handle;
+mod helping;
 mod imaging;
 mod joining;
 mod judging;
 mod kept;
+mod kinds;
+mod lending;
 mod making;
+mod moves;
 mod opening;
 mod parts;
+mod planning;
+mod resting;
 mod seeing;
+mod settling;
 mod sizes;
+mod telling;
 mod turning;
 
 pub use answer::Answer;
 pub use calling::{Call, make_call};
 pub use copying::{end_roots, mutator_roots};
 pub use crewing::{flip_crew, take_member};
-pub use dumping::{copy_dump_of, dump_size};
+pub use dumping::copy_dump_of;
 pub use ending::{Question, Written, ask, page_entry, page_words};
+pub use facts::{
+    EndFacts, HeapFacts, MutatorFacts, PlanFacts, end_facts, heap_facts, mutator_facts, plan_facts,
+};
 pub use handle::Handle;
-pub use imaging::{image_size, read_image, write_image};
+pub use helping::{begin_job, finish_job, help_job, share_job};
+pub use imaging::{read_image, write_image};
 pub use joining::{give_member, meet_members};
 pub use judging::judge_dump;
 pub use kept::Kept;
+pub use lending::{
+    collect_in_place_lent, collect_lent, reserve_tables, return_tables, survey_lent,
+};
 pub use making::{put_heap, put_marked};
+pub use moves::judge_moved;
+pub use planning::{forward_plan, plan_page, share_plan};
+pub use resting::{
+    SurveyFacts, collect, collect_in_place, forward_survey, forward_weak, share_survey,
+    slide_survey, survey_by_marks, survey_by_roots, survey_facts,
+};
 pub use seeing::seen_page;
+pub use settling::rest_end;
+pub use telling::explain_dump;
 pub use turning::{drop_kept, finish_crew, follow, follow_reached, plan_heap};

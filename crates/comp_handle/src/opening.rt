@@ -1,7 +1,9 @@
-//! A handle's content, out of its box and back.
-ghost use Rattle.std.specs.Prelude.{◌≡◌, None, Some, MatchOption};
+//! A handle's content, out of its box and back, or into the box of another handle.
+ghost use Rattle.std.specs.Prelude.{◌≡◌, None, Some, is_some, IsTrue, MatchOption};
 ghost use Rattle.comp_handle.specs.Keeping.{IsKept, KeepsIf};
+ghost use Rattle.comp_handle.specs.Kinds.{Settles};
 
+use crate::answer::Answer;
 use crate::handle::Handle;
 use crate::kept::Kept;
 use std::alloc::Global;
@@ -23,26 +25,94 @@ pub(crate) fn open(alloc: Global, h: &mut Handle) -> Option<Opened>
     Some(Opened { room, kept })
 }
 
-/// Puts this into the box, and the box into the handle.
+/// Puts this into the box, and the box into the handle, which is empty.
 pub(crate) fn close(h: &mut Handle, mut room: Box<Kept>, kept: Kept)
-    requires { IsKept kept }
+    requires empty { h.old.kept ≡ None }
+    requires kept { IsKept kept }
     ensures { h.new.kept ≡ Some kept }
 {
     drop(Box::replace(&mut room, kept));
-    h.put(room);
+    h.put_back(room);
 }
 
-/// Puts this into a new box, and the box into the handle. If there is no memory for a box, the handle stays as it is,
-/// and the answer is false.
+/// Puts this into a new box, and the box into the handle, which is empty. If there is no memory for a box, the handle
+/// stays empty, and the answer is false.
 pub(crate) fn keep(alloc: Global, h: &mut Handle, kept: Kept) -> bool
-    requires { IsKept kept }
+    requires empty { h.old.kept ≡ None }
+    requires kept { IsKept kept }
     ensures { KeepsIf result kept h.old.kept h.new.kept }
 {
     match Box::new(alloc, kept) {
         Ok(room) => {
-            h.put(room);
+            h.put_back(room);
             true
         }
         Err(_) => false,
     }
+}
+
+/// Whether the handle keeps something. It stays as it is.
+pub(crate) fn is_full(alloc: Global, h: &mut Handle) -> bool
+    ensures same { h.new.kept ≡ h.old.kept }
+    ensures full { result ≡ is_some h.old.kept }
+{
+    match h.take(alloc) {
+        Some(kept) => {
+            h.put_back(kept);
+            true
+        }
+        None => false,
+    }
+}
+
+/// What is kept after a turn, whether it goes to the second handle, and the answer.
+#[derive(Drop)]
+pub(crate) struct Turned {
+    pub(crate) kept: Kept,
+    pub(crate) goes: bool,
+    pub(crate) answer: Answer,
+}
+
+impl Turned {
+    /// What was made goes to the second handle, and the value is the result.
+    pub(crate) fn gone(kept: Kept, value: u64) -> Turned
+        ensures { result ≡ record { kept = kept; goes = true; answer = done value } }
+    {
+        Turned {
+            kept,
+            goes: true,
+            answer: Answer::done(value),
+        }
+    }
+
+    /// Nothing changes, and the answer says why.
+    pub(crate) fn stays(kept: Kept, answer: Answer) -> Turned
+        ensures { result ≡ record { kept = kept; goes = false; answer = answer } }
+    {
+        Turned {
+            kept,
+            goes: false,
+            answer,
+        }
+    }
+
+    ghost use Rattle.std.specs.Prelude.{false, true};
+    ghost use Rattle.comp_handle.specs.Answers.{done};
+}
+
+/// Puts what is kept after a turn into one of the two handles, by the box of the first one. Takes no memory.
+pub(crate) fn settle(from: &mut Handle, to: &mut Handle, room: Box<Kept>, turned: Turned) -> Answer
+    requires empty { from.old.kept ≡ None }
+    requires free { IsTrue turned.goes → to.old.kept ≡ None }
+    requires kept { IsKept turned.kept }
+    ensures settles { Settles turned.goes turned.kept from.new.kept to.old.kept to.new.kept }
+    ensures answer { result ≡ turned.answer }
+{
+    let Turned { kept, goes, answer } = turned;
+    if goes {
+        close(to, room, kept);
+    } else {
+        close(from, room, kept);
+    }
+    answer
 }

@@ -1,8 +1,7 @@
 //! Pages are copied while mutators go on.
 ghost use Rattle.std.specs.Prelude.{◌≡◌};
 ghost use Rattle.comp_crew.specs.Members.{IsMember};
-ghost use Rattle.comp_handle.specs.Calling.{Calls};
-ghost use Rattle.comp_handle.specs.Seeing.{CopiesSeen, HasNoMutator};
+ghost use Rattle.comp_handle.specs.Seeing.{CopiesSeen, SeesBy};
 
 use crate::answer::Answer;
 use crate::handle::Handle;
@@ -24,7 +23,7 @@ fn copy_seen(alloc: Global, m: &mut Member, p: u64, out: &mut [u64; 64]) -> Answ
             *out = *copy.words.as_array();
             Answer::done(copy.journal.len() as u64)
         }
-        Err(refusal) => Answer::refused(refusal),
+        Err(refusal) => Answer::refused(0, refusal),
     }
 }
 
@@ -32,15 +31,14 @@ fn copy_seen(alloc: Global, m: &mut Member, p: u64, out: &mut [u64; 64]) -> Answ
 /// the number of entries of the page's journal. If nobody has built the page, the call builds it, and it stays built if
 /// the copy is then refused. After a refusal the buffer is as it was.
 pub fn seen_page(alloc: Global, h: &mut Handle, p: u64, out: &mut [u64; 64]) -> Answer
-    ensures copies { Calls (CopiesSeen p out.old out.new) h.old.kept h.new.kept result }
-    ensures untouched { HasNoMutator h.old.kept → out.new ≡ out.old }
+    ensures { SeesBy p out.old out.new h.old.kept h.new.kept result }
 {
     let Some(mut kept) = h.take(alloc) else {
         return Answer::bare(10, 0);
     };
     let answer = match kept.as_mut() {
         Kept::Mutator(m) => copy_seen(alloc, m, p, out),
-        _ => Answer::bare(11, 0),
+        _ => Answer::bare(255, 0),
     };
     h.put_back(kept);
     answer

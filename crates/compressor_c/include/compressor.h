@@ -1,281 +1,646 @@
-/* The collector for C. docs/C.md has the cycle as a whole, threads, and how to build; here is the manual of each call.
-   Link out/libcompressor_c.a of this crate, and the kit's c/liblibc_c.a, which calls malloc, realloc and free.
+/* compressor.h: a compacting garbage collector for runtimes in C, C++ and unverified Rust. There are two ways to use
+   it. A flipped heap: threads go on while their heap is compacted, and read, write and allocate by calls of a mutator.
+   A heap at rest: it lies in memory of the runtime's, which reads, writes and allocates there with no call
+   (compressor_rest.h), and stands still for a collection. docs/C.md is the guide; here is the manual of each call. Link
+   out/libcompressor_c.a of this crate, and the kit's c/liblibc_c.a, which calls malloc, realloc and free.
 
-   Handles. A handle is empty, or keeps one of: a marked heap, a plan, a crew (with its mutators that no thread has), a
-   mutator, a finished heap. Begin with COMP_EMPTY. Only the calls below read or write a handle. A handle may be moved,
-   but never copied and then both used. A call that puts something into a handle drops what the handle kept before.
+   Handles. Each kind of thing has a struct of its own: heap, plan, crew, mutator, end; survey, tables, job. A handle is
+   empty or keeps one thing. Begin with COMPRESSOR_EMPTY, or with zero bytes. Only calls write to a handle. It may be
+   moved in memory, and never used from two copies. The handles of one call are not the same handle. What a call makes
+   goes into an empty handle; a drop alone frees what a handle keeps. Where a call says that something goes, its handle
+   is empty then.
 
-   Pointers. None that is passed is null, not even that of an array of length 0. While a call runs, nobody else writes
-   to an array that it was passed, or uses what it writes to. No call keeps a pointer of the caller's.
+   Arrays. No pointer is null, not even that of an array of length 0. Elements are aligned as their type. No array
+   overlaps another one, or a handle, of the same call. While a call runs, nobody writes to what it reads, or uses what
+   it writes. No call keeps a pointer of the caller's. Of a call that fills a buffer, what lies behind the count of the
+   answer stays.
 
-   Threads. Each handle is used by one call at a time, in any thread; from one thread to the next by a lock, a thread's
-   start or join, or a seq_cst atomic. Two mutators of one crew are used by two threads at the same time, without a
-   lock. The handles of one call are not the same handle. No call is made from a signal handler, or in the forked child
-   of a process with threads. No call waits.
+   Threads. Each handle is used by one call at a time, reads included; from one thread to the next by a lock, the start
+   or join of a thread, or a seq_cst atomic. What is often asked is copied into plain structs (.._facts), which anybody
+   may read. Mutators of one crew are used at the same time without a lock. To use one plan, survey or job from several
+   threads, give each a share of its own (.._share). No call waits, locks, or starts a thread. No call is made from a
+   signal handler, or in the forked child of a process with threads.
 
-   Answers. A call answers a status and a value. After COMP_DONE the value is the result, 0 if none is named. Else it is
-   the number that the refusal names, or 0. A refused call leaves its handles, and all that it writes to, as they were,
-   but that some calls of a mutator may have built a page: they say after which refusals. Every call may be refused so:
-     COMP_EMPTY_HANDLE   a handle that it reads is empty;
-     COMP_WRONG_HANDLE   a handle that it reads keeps something else than the call names. The value of both is 1 if it
-                         is the second handle of comp_give or comp_meet, and else 0;
-     COMP_OUT_OF_MEMORY  an allocation was refused; the call may be made again. It may come in place of any refusal of
-                         which nothing else is said. The calls that take no memory say so.
-   The other refusals stand at each call, in their order, with their values in brackets.
+   Answers. status is COMPRESSOR_DONE, and then value is the result, 0 if none is named; else value and other are
+   the numbers that the refusal names, in this order, and 0. A refused call leaves handles and buffers as they were,
+   but where its comment says otherwise. Refusals come in the order in which a comment names them; before all others
+     COMPRESSOR_EMPTY_HANDLE   a handle that is read is empty, and
+     COMPRESSOR_NOT_EMPTY      one that is to be filled keeps something (value: which handle of the call, from 0).
+   COMPRESSOR_OUT_OF_MEMORY comes only if a comment says 'memory'. It may come in place of what is named behind it, and
+   then the call may be made again.
 
-   Immediates. In a heap of edition four a root, a reference or a weak word may also be a word from
-   COMP_FIRST_IMMEDIATE on: an immediate. Wherever null is allowed below as a value, an immediate is too; it leads
-   nowhere, and no call changes it. As the object of a read or a write it is COMP_NOT_A_START. In editions one to three
-   there are none: such a word is refused there. */
+   Immediates. In a heap of edition four a root, a reference or a weak word may also be a word from COMPRESSOR_IMMEDIATE
+   on. Wherever null is allowed below as a value, an immediate is too; it leads nowhere, and no call changes it. As the
+   object of a read or a write it is COMPRESSOR_NOT_A_START. In editions one to three such a word is refused.
+
+   Platform: 64 bits, little-endian, the C calling convention of x86-64 Linux. */
 #ifndef COMPRESSOR_H
 #define COMPRESSOR_H
 
 #include <stddef.h>
 #include <stdint.h>
 
+/* The version of this header. Before 1.0.0 each of them may change all calls. */
+#define COMPRESSOR_VERSION_MAJOR 0
+#define COMPRESSOR_VERSION_MINOR 1
+#define COMPRESSOR_VERSION_PATCH 0
+#define COMPRESSOR_VERSION_TEXT "0.1.0"
+#define COMPRESSOR_VERSION \
+    (COMPRESSOR_VERSION_MAJOR * 1000000u + COMPRESSOR_VERSION_MINOR * 1000u + COMPRESSOR_VERSION_PATCH)
+
+#if !defined(__linux__) || !defined(__x86_64__) || defined(__ILP32__)
+#error "compressor.h: this library is for x86-64 Linux, 64 bits"
+#endif
+
+#ifdef __cplusplus
+#define COMPRESSOR_ASSERT_(fact, text) static_assert(fact, text)
+#define COMPRESSOR_AS_(type, value) static_cast<type>(value)
+#define COMPRESSOR_EMPTY {nullptr}
+#else
+#define COMPRESSOR_ASSERT_(fact, text) _Static_assert(fact, text)
+#define COMPRESSOR_AS_(type, value) ((type)(value))
+#define COMPRESSOR_EMPTY {NULL}
+#endif
+
 #ifdef __cplusplus
 extern "C" {
 #endif
 
-typedef struct comp_handle {
-    void *at;
-} comp_handle;
+/* HANDLES AND ANSWERS */
 
-#define COMP_EMPTY {0}
+typedef struct compressor_heap { void *at; } compressor_heap;       /* words, roots, and which objects are marked */
+typedef struct compressor_plan { void *at; } compressor_plan;       /* where each object of a heap slides */
+typedef struct compressor_crew { void *at; } compressor_crew;       /* mutators of a flipped heap that no thread has */
+typedef struct compressor_mutator { void *at; } compressor_mutator; /* what one thread needs of a flipped heap */
+typedef struct compressor_end { void *at; } compressor_end;         /* a finished cycle: pages, journals, roots */
+typedef struct compressor_survey { void *at; } compressor_survey;   /* which objects of a heap at rest are live */
+typedef struct compressor_tables { void *at; } compressor_tables;   /* room for a survey, made before it */
+typedef struct compressor_job { void *at; } compressor_job;         /* the marking of a heap at rest by many threads */
 
-/* The first immediate, in edition four. No address is one. */
-#define COMP_FIRST_IMMEDIATE (UINT64_C(1) << 63)
-
-typedef struct comp_answer {
+typedef struct compressor_answer {
     uint32_t status;
+    uint32_t other; /* the second number of a refusal */
     uint64_t value;
-} comp_answer;
+} compressor_answer;
 
-/* An entry of a journal: the stamps of all entries of all pages are the numbers from 0 on. */
-typedef struct comp_entry {
+typedef enum compressor_status {
+    COMPRESSOR_DONE = 0,
+    /* calls of a mutator */
+    COMPRESSOR_BUSY = 1,              /* (page) another mutator builds or holds it, or was faster: call again */
+    COMPRESSOR_NULL_OBJECT = 2,       /* the object is null */
+    COMPRESSOR_NOT_A_START = 3,       /* (address) the mutator knows of no object there */
+    COMPRESSOR_NO_SUCH_FIELD = 4,     /* (field) the object has none of this kind with this number */
+    COMPRESSOR_OBJECT_TOO_LARGE = 6,  /* (words) more than COMPRESSOR_MAX_NEW_WORDS */
+    COMPRESSOR_OUT_OF_PAGES = 7,      /* no fresh page of the mutator's has room: end the cycle */
+    COMPRESSOR_JOURNAL_FULL = 8,      /* (page) it has COMPRESSOR_MAX_ENTRIES entries: end the cycle */
+    COMPRESSOR_OUT_OF_MEMORY = 9,
+    COMPRESSOR_EMPTY_HANDLE = 10,     /* (which) */
+    COMPRESSOR_NOT_EMPTY = 11,        /* (which) */
+    COMPRESSOR_NO_SUCH_PAGE = 12,     /* (page) */
+    COMPRESSOR_NO_SUCH_ROOT = 13,     /* (number) */
+    COMPRESSOR_BAD_MUTATORS = 14,     /* (count) not 1 to 64 */
+    COMPRESSOR_TOO_MANY_PAGES = 15,   /* (the most fresh pages with which the cycle can be followed) */
+    COMPRESSOR_MUTATOR_MISSING = 16,  /* (the least number that was not handed back) */
+    COMPRESSOR_OTHER_CREW = 17,       /* a mutator of another crew */
+    COMPRESSOR_NO_MUTATOR_LEFT = 18,
+    COMPRESSOR_BAD_EDITION = 19,      /* (edition) not 1 to 4 */
+    COMPRESSOR_NOT_BUILT = 20,        /* (page) nobody built it: it has the words of the plan (compressor_plan_page),
+                                         or zeros if fresh */
+    COMPRESSOR_NO_SUCH_ENTRY = 21,    /* (number) */
+    COMPRESSOR_TOO_SHORT = 22,        /* (length; which) the buffer is shorter; which is 0 but of compressor_end_rest */
+    COMPRESSOR_NO_SUCH_BUILD = 23,    /* (number) */
+    COMPRESSOR_NO_SUCH_MUTATOR = 24,  /* (number) */
+    /* calls of a heap at rest */
+    COMPRESSOR_NO_SUCH_PART = 25,     /* the part ends behind the live words */
+    COMPRESSOR_CHANGED = 26,          /* (index) the object has not as many words as when it was surveyed */
+    COMPRESSOR_UNMARKED = 27,         /* (index of the word) a reference in the part leads to no live object */
+    COMPRESSOR_STILL_SHARED = 28,     /* another handle keeps a share; of a crew never, if conditions are kept */
+    COMPRESSOR_OTHER_COUNT = 29,      /* not as many words as were surveyed */
+    COMPRESSOR_SHORT_TABLES = 30,     /* (words) there are more words than the tables have room for */
+    COMPRESSOR_WRONG_LENGTH = 31,     /* not one block of marks for each 64 words, the last ones in part */
+    COMPRESSOR_BAD_OPTIONS = 32,      /* (options) a bit that has no meaning */
+    /* 32 + n: fault Hn of a heap or an image (docs/FORMATS.md); H11 is COMPRESSOR_OUT_OF_MEMORY */
+    COMPRESSOR_TOO_LARGE = 33,        /* more words, marks or roots than the edition allows */
+    COMPRESSOR_OBJECT_PAST_END = 34,  /* (index) */
+    COMPRESSOR_OBJECT_TOO_LONG = 35,  /* (index) */
+    COMPRESSOR_MARK_NOT_START = 36,   /* (index) */
+    COMPRESSOR_MARKS_NOT_RISING = 37, /* (the mark that is not above the one before it) */
+    COMPRESSOR_BAD_ROOT = 38,         /* (number) */
+    COMPRESSOR_UNMARKED_TARGET = 39,  /* (index of the word) */
+    COMPRESSOR_IMAGE_TRUNCATED = 40,
+    COMPRESSOR_IMAGE_TRAILING = 41,
+    COMPRESSOR_IMAGE_BAD_MAGIC = 42,
+    COMPRESSOR_BAD_WEAK = 45,         /* (index of the word) */
+    /* 64 + n: fault An of a dump */
+    COMPRESSOR_WRONG_WORD = 65,       /* (address) */
+    COMPRESSOR_LOOSE_REFERENCE = 66,  /* (address) */
+    COMPRESSOR_BAD_ENTRY = 67,        /* (page; entry) */
+    COMPRESSOR_STAMP_REPEATED = 68,   /* (stamp) */
+    COMPRESSOR_STAMP_MISSING = 69,    /* (stamp) */
+    COMPRESSOR_WRONG_TOTAL = 70,
+    COMPRESSOR_BUILD_UNCLAIMED = 71,  /* (page) */
+    COMPRESSOR_WRONG_HEAD = 72,
+    COMPRESSOR_PAGE_MISSING = 73,     /* (page) only with COMPRESSOR_WHOLE */
+    /* 96 + n: Bn, the bytes are no dump, no file of words, no moved heap */
+    COMPRESSOR_FILE_TRUNCATED = 97,
+    COMPRESSOR_FILE_TRAILING = 98,
+    COMPRESSOR_FILE_BAD_MAGIC = 99,
+    COMPRESSOR_FILE_BAD_FIELD = 100,
+    /* 128 + n: fault Sn of a heap at rest; those that have the cause of a fault Hn are 32 + n */
+    COMPRESSOR_BAD_REFERENCE = 131,   /* (index of the word) a reference of a live object leads to none of the words */
+    COMPRESSOR_OVERLAP = 135,         /* (index) the object has a word with another live object */
+    /* 160 + n: fault Vn of a moved heap. Objects are the marked ones, counted from 0 */
+    COMPRESSOR_MOVED_WRONG_HEAD = 161,    /* (0 edition, 1 places, 2 roots) */
+    COMPRESSOR_MOVED_PLACE_OUTSIDE = 162, /* (object) */
+    COMPRESSOR_MOVED_OVERLAP = 163,       /* (object; object) */
+    COMPRESSOR_MOVED_WRONG_ROOT = 164,    /* (number) */
+    COMPRESSOR_MOVED_WRONG_WORD = 165,    /* (object; word) */
+    COMPRESSOR_WRONG_HANDLE = 255         /* a handle of another kind: a cast, or a byte that C wrote */
+} compressor_status;
+
+/* An entry of a journal: the stamps of all entries of all pages are the numbers from 0 on. The layout and the kinds are
+   those of a dump, padded. */
+typedef struct compressor_entry {
     uint64_t stamp;
     uint64_t value;
     uint8_t writer; /* the number of the mutator */
-    uint8_t kind;   /* 0: the header of a new object, 1: a reference, 2: a weak word, 3: a data word */
+    uint8_t kind;   /* enum compressor_kind */
     uint8_t offset; /* of the word on its page */
-} comp_entry;
+    uint8_t unused[5];
+} compressor_entry;
 
-enum comp_status {
-    COMP_DONE = 0,
-    COMP_BUSY = 1,              /* another mutator builds or holds this page, or was faster: call again */
-    COMP_NULL = 2,              /* the object is null */
-    COMP_NOT_A_START = 3,       /* the mutator knows of no object at this address */
-    COMP_NO_SUCH_FIELD = 4,     /* the object has no field of this kind with this index */
-    COMP_NOT_IN_EDITION = 5,    /* weak words in edition one, a tag of 2^16 or more in edition two, of 2^14 or more in
-                                   editions three and four */
-    COMP_OBJECT_TOO_LARGE = 6,  /* more than 64 words */
-    COMP_OUT_OF_PAGES = 7,      /* no own fresh page has room: end the cycle */
-    COMP_JOURNAL_FULL = 8,      /* this page has 1,024 entries: end the cycle */
-    COMP_OUT_OF_MEMORY = 9,     /* an allocation was refused */
-    COMP_EMPTY_HANDLE = 10,     /* the handle is empty (value 1: the second one) */
-    COMP_WRONG_HANDLE = 11,     /* the handle keeps something else (value 1: the second one) */
-    COMP_NO_SUCH_PAGE = 12,
-    COMP_NO_SUCH_ROOT = 13,
-    COMP_BAD_COUNTS = 14,       /* not 1 to 64 mutators, or more fresh pages than the edition allows */
-    COMP_MUTATOR_MISSING = 15,  /* the least number of a mutator that was not handed back */
-    COMP_OTHER_CREW = 16,       /* a mutator of another crew */
-    COMP_STILL_SHARED = 17,     /* a crew that is whole has another owner */
-    COMP_NO_MUTATOR_LEFT = 18,
-    COMP_BAD_EDITION = 19,
-    COMP_NOT_BUILT = 21,        /* nobody built this page */
-    COMP_NO_SUCH_ENTRY = 22,
-    COMP_TOO_SHORT = 23,        /* the buffer is shorter than this number, and stays as it was */
-    COMP_NO_SUCH_BUILD = 24,    /* the mutator built no page with this number */
-    COMP_NO_SUCH_MUTATOR = 25,
-    COMP_LAYOUT = 32,           /* 32 + n: the heap or image is refused as Hn (docs/FORMATS.md), with the number that Hn
-                                   names. Out of memory is COMP_OUT_OF_MEMORY, never 32 + 11 */
-    COMP_AUDIT = 64,            /* 64 + n: the dump has the fault An (docs/FORMATS.md), from 65 to 72. The status 73, of
-                                   A9, comes only of an audit of whole dumps: comp_audit never answers it */
-    COMP_DUMP = 96              /* 96 + n: no dump is read, as Bn (docs/FORMATS.md), from 97 to 100 */
+enum compressor_kind {
+    COMPRESSOR_KIND_HEADER = 0,
+    COMPRESSOR_KIND_REF = 1,
+    COMPRESSOR_KIND_DATA = 2,
+    COMPRESSOR_KIND_WEAK = 3
 };
+
+/* What an object is: one header word, then so many references, weak words and data words, in this order. */
+typedef struct compressor_shape {
+    uint32_t refs;
+    uint32_t weak;
+    uint32_t data;
+    uint32_t tag;
+} compressor_shape;
+
+typedef struct compressor_heap_facts {
+    uint64_t words;
+    uint64_t marked;           /* objects */
+    uint64_t roots;
+    uint32_t edition;
+    uint32_t unused;
+} compressor_heap_facts;
+
+typedef struct compressor_plan_facts {
+    uint64_t live_words;
+    uint64_t pages;            /* compacted ones; a flip adds fresh ones behind them */
+    uint64_t most_fresh_pages; /* of a flip: more are COMPRESSOR_TOO_MANY_PAGES */
+    uint64_t roots;
+    uint32_t edition;
+    uint32_t unused;
+} compressor_plan_facts;
+
+typedef struct compressor_mutator_facts {
+    uint64_t pages;           /* compacted ones first, then fresh ones */
+    uint64_t compacted_pages;
+    uint64_t builds;          /* pages that this mutator built */
+    uint64_t entries;         /* writes and allocations of this mutator */
+    uint64_t made_words;      /* of all objects that it allocated */
+    uint64_t roots;
+    uint32_t edition;
+    uint32_t mutators;        /* of the crew */
+    uint32_t number;
+    uint32_t unused;
+} compressor_mutator_facts;
+
+typedef struct compressor_end_facts {
+    uint64_t live_words;      /* those that slid, and those of new objects */
+    uint64_t pages;
+    uint64_t compacted_pages;
+    uint64_t rest_words;      /* of all pages: 64 a page, as compressor_end_rest writes them */
+    uint64_t roots;
+    uint32_t edition;
+    uint32_t mutators;
+} compressor_end_facts;
+
+typedef struct compressor_survey_facts {
+    uint64_t live_words; /* of the live objects: those that slide, from the first word of the new memory on */
+} compressor_survey_facts;
+
+/* What a call of compressor_job_help did. */
+enum compressor_help {
+    COMPRESSOR_HELP_DONE = 0,   /* nothing is left to help with: the job may be finished */
+    COMPRESSOR_HELP_WORKED = 1, /* it looked at some objects: call again */
+    COMPRESSOR_HELP_IDLE = 2    /* other threads have the objects that wait: call again later */
+};
+
+/* CONSTANTS (docs/FORMATS.md) */
+
+#define COMPRESSOR_FROM_SPACE UINT64_C(0x100000000)    /* word i of a heap has this address + i */
+#define COMPRESSOR_TO_SPACE UINT64_C(0x200000000)      /* word i of a flipped heap has this address + i */
+#define COMPRESSOR_IMMEDIATE (UINT64_C(1) << 63)       /* edition four: from here on a value is no reference */
+#define COMPRESSOR_PAGE_WORDS 64u
+#define COMPRESSOR_MAX_NEW_WORDS 64u                   /* of an object that a mutator makes, with its header */
+#define COMPRESSOR_MAX_ENTRIES 1024u                   /* of a page in a cycle */
+#define COMPRESSOR_MAX_MUTATORS 64u
+
+static inline uint64_t compressor_max_words(uint32_t edition) {
+    return edition < 3 ? UINT64_C(1) << 20 : UINT64_C(1) << 31;
+}
+static inline uint64_t compressor_max_object_words(uint32_t edition) {
+    return edition < 3 ? 1024u : UINT64_C(1) << 31;
+}
+static inline uint64_t compressor_max_roots(uint32_t edition) { /* and of fresh pages */
+    return edition < 3 ? 4096u : UINT64_C(1) << 20;
+}
+static inline uint64_t compressor_max_pages(uint32_t edition) { /* of a cycle that can be followed, fresh ones too */
+    return compressor_max_words(edition) / COMPRESSOR_PAGE_WORDS;
+}
+static inline uint64_t compressor_max_tag(uint32_t edition) {
+    return edition == 1 ? UINT32_MAX : edition == 2 ? 65535u : 16383u;
+}
+
+/* The shape that a header word says, and the words of an object of that shape, its header too. */
+static inline compressor_shape compressor_shape_of(uint32_t edition, uint64_t header) {
+    compressor_shape s;
+    const uint64_t form = edition < 3 ? 0 : header >> 62;
+    const uint32_t many = COMPRESSOR_AS_(uint32_t, header & 0x7fffffffu);
+    const uint32_t few = COMPRESSOR_AS_(uint32_t, header >> 31 & 0x1ffffu);
+    s.refs = form == 0 ? COMPRESSOR_AS_(uint32_t, header & 0xffffu) : form == 1 ? many : form == 2 ? few : 0;
+    s.weak = form == 3 ? many : form != 0 || edition == 1 ? 0 : COMPRESSOR_AS_(uint32_t, header >> 32 & 0xffffu);
+    s.data = form == 0 ? COMPRESSOR_AS_(uint32_t, header >> 16 & 0xffffu) : form == 2 ? many : few;
+    s.tag = edition == 1   ? COMPRESSOR_AS_(uint32_t, header >> 32)
+            : edition == 2 ? COMPRESSOR_AS_(uint32_t, header >> 48)
+                           : COMPRESSOR_AS_(uint32_t, header >> 48 & 0x3fffu);
+    return s;
+}
+static inline uint64_t compressor_shape_words(compressor_shape s) {
+    return UINT64_C(1) + s.refs + s.weak + s.data;
+}
+/* The header word of a shape: 1 and the word, or 0 if the edition has none. It is the mixed form if that has room. */
+static inline int compressor_shape_header(uint32_t edition, compressor_shape s, uint64_t *header) {
+    const uint64_t r = s.refs, w = s.weak, d = s.data, t = s.tag, many = UINT64_C(1) << 31, few = UINT64_C(1) << 17;
+    if (edition < 1 || edition > 4 || t > compressor_max_tag(edition)) return 0;
+    if (r < 65536 && d < 65536 && w < 65536 && (edition != 1 || w == 0)) {
+        *header = r | d << 16 | w << 32 | (edition == 1 ? t << 32 : t << 48);
+        return 1;
+    }
+    if (edition < 3) return 0;
+    if (w == 0 && r < many && d < few) *header = r | d << 31 | t << 48 | UINT64_C(1) << 62;
+    else if (w == 0 && d < many && r < few) *header = d | r << 31 | t << 48 | UINT64_C(2) << 62;
+    else if (r == 0 && w < many && d < few) *header = w | d << 31 | t << 48 | UINT64_C(3) << 62;
+    else return 0;
+    return 1;
+}
+
+/* The name of a status, as "JOURNAL_FULL". */
+static inline const char *compressor_status_text(uint32_t status) {
+    switch (status) {
+#define COMPRESSOR_CASE_(name) case COMPRESSOR_##name: return #name;
+        COMPRESSOR_CASE_(DONE)
+        COMPRESSOR_CASE_(BUSY)
+        COMPRESSOR_CASE_(NULL_OBJECT)
+        COMPRESSOR_CASE_(NOT_A_START)
+        COMPRESSOR_CASE_(NO_SUCH_FIELD)
+        COMPRESSOR_CASE_(OBJECT_TOO_LARGE)
+        COMPRESSOR_CASE_(OUT_OF_PAGES)
+        COMPRESSOR_CASE_(JOURNAL_FULL)
+        COMPRESSOR_CASE_(OUT_OF_MEMORY)
+        COMPRESSOR_CASE_(EMPTY_HANDLE)
+        COMPRESSOR_CASE_(NOT_EMPTY)
+        COMPRESSOR_CASE_(NO_SUCH_PAGE)
+        COMPRESSOR_CASE_(NO_SUCH_ROOT)
+        COMPRESSOR_CASE_(BAD_MUTATORS)
+        COMPRESSOR_CASE_(TOO_MANY_PAGES)
+        COMPRESSOR_CASE_(MUTATOR_MISSING)
+        COMPRESSOR_CASE_(OTHER_CREW)
+        COMPRESSOR_CASE_(NO_MUTATOR_LEFT)
+        COMPRESSOR_CASE_(BAD_EDITION)
+        COMPRESSOR_CASE_(NOT_BUILT)
+        COMPRESSOR_CASE_(NO_SUCH_ENTRY)
+        COMPRESSOR_CASE_(TOO_SHORT)
+        COMPRESSOR_CASE_(NO_SUCH_BUILD)
+        COMPRESSOR_CASE_(NO_SUCH_MUTATOR)
+        COMPRESSOR_CASE_(NO_SUCH_PART)
+        COMPRESSOR_CASE_(CHANGED)
+        COMPRESSOR_CASE_(UNMARKED)
+        COMPRESSOR_CASE_(STILL_SHARED)
+        COMPRESSOR_CASE_(OTHER_COUNT)
+        COMPRESSOR_CASE_(SHORT_TABLES)
+        COMPRESSOR_CASE_(WRONG_LENGTH)
+        COMPRESSOR_CASE_(BAD_OPTIONS)
+        COMPRESSOR_CASE_(TOO_LARGE)
+        COMPRESSOR_CASE_(OBJECT_PAST_END)
+        COMPRESSOR_CASE_(OBJECT_TOO_LONG)
+        COMPRESSOR_CASE_(MARK_NOT_START)
+        COMPRESSOR_CASE_(MARKS_NOT_RISING)
+        COMPRESSOR_CASE_(BAD_ROOT)
+        COMPRESSOR_CASE_(UNMARKED_TARGET)
+        COMPRESSOR_CASE_(IMAGE_TRUNCATED)
+        COMPRESSOR_CASE_(IMAGE_TRAILING)
+        COMPRESSOR_CASE_(IMAGE_BAD_MAGIC)
+        COMPRESSOR_CASE_(BAD_WEAK)
+        COMPRESSOR_CASE_(WRONG_WORD)
+        COMPRESSOR_CASE_(LOOSE_REFERENCE)
+        COMPRESSOR_CASE_(BAD_ENTRY)
+        COMPRESSOR_CASE_(STAMP_REPEATED)
+        COMPRESSOR_CASE_(STAMP_MISSING)
+        COMPRESSOR_CASE_(WRONG_TOTAL)
+        COMPRESSOR_CASE_(BUILD_UNCLAIMED)
+        COMPRESSOR_CASE_(WRONG_HEAD)
+        COMPRESSOR_CASE_(PAGE_MISSING)
+        COMPRESSOR_CASE_(FILE_TRUNCATED)
+        COMPRESSOR_CASE_(FILE_TRAILING)
+        COMPRESSOR_CASE_(FILE_BAD_MAGIC)
+        COMPRESSOR_CASE_(FILE_BAD_FIELD)
+        COMPRESSOR_CASE_(BAD_REFERENCE)
+        COMPRESSOR_CASE_(OVERLAP)
+        COMPRESSOR_CASE_(MOVED_WRONG_HEAD)
+        COMPRESSOR_CASE_(MOVED_PLACE_OUTSIDE)
+        COMPRESSOR_CASE_(MOVED_OVERLAP)
+        COMPRESSOR_CASE_(MOVED_WRONG_ROOT)
+        COMPRESSOR_CASE_(MOVED_WRONG_WORD)
+        COMPRESSOR_CASE_(WRONG_HANDLE)
+#undef COMPRESSOR_CASE_
+        default: return "UNKNOWN";
+    }
+}
+
+/* The version of the archive: COMPRESSOR_VERSION of the header with which it was made. From 1.0.0 on a program may be
+   linked with any version that has the major number of the header for which it was compiled, and that is not lower. */
+uint32_t compressor_version(void);
+
+/* THE HEAP AT REST */
+
+/* Its words are from-space (docs/FORMATS.md), in memory of the caller. Only objects that are reached, or marked, are
+   looked at; what lies between them may be anything. All threads of the runtime stand still, or touch nothing of it,
+   from the survey to the last slide. A root that is not handed in is lost, and one that is forwarded twice may be that
+   of another object. */
+
+/* The whole collection: slides what the roots reach into `to`, from its first word on, and makes the roots lead there.
+   Answers the live words; those of `to` behind them stay. in_place: the same down to the first of the words, with no
+   second memory. Tables take two bits a word, 4 bytes for each 64 words, and 4 for each object that is reached.
+   Refusals, after which all is as it was: BAD_EDITION; TOO_LARGE; memory, or a fault that is there: BAD_ROOT,
+   BAD_REFERENCE, BAD_WEAK, OBJECT_TOO_LONG, OBJECT_PAST_END or OVERLAP; TOO_SHORT (the live words). */
+compressor_answer compressor_collect(uint32_t edition, const uint64_t *words, size_t word_count, uint64_t *roots,
+                                     size_t root_count, uint64_t *to, size_t to_count);
+compressor_answer compressor_collect_in_place(uint32_t edition, uint64_t *words, size_t word_count, uint64_t *roots,
+                                              size_t root_count);
+
+/* A survey: which objects are live, and where they slide. It has nothing of the words. Answers the live words.
+   by_roots: live is what the roots reach; refusals as above, but TOO_SHORT. by_marks: live are the objects at the bits
+   that are set, bit i % 64 of block i / 64 for the object at index i, in (word_count + 63) / 64 blocks; marks may come
+   from anywhere. Refusals: BAD_EDITION; WRONG_LENGTH; TOO_LARGE; memory, or a fault that is there: BAD_ROOT or
+   UNMARKED_TARGET, a root or a reference of a marked object that leads to no marked object, OBJECT_TOO_LONG,
+   OBJECT_PAST_END, OVERLAP or BAD_WEAK. */
+compressor_answer compressor_survey_by_roots(uint32_t edition, const uint64_t *words, size_t word_count,
+                                             const uint64_t *roots, size_t root_count, compressor_survey *survey);
+compressor_answer compressor_survey_by_marks(uint32_t edition, const uint64_t *words, size_t word_count,
+                                             const uint64_t *roots, size_t root_count, const uint64_t *marks,
+                                             size_t block_count, compressor_survey *survey);
+
+/* Take no memory, but for a share: another handle of the same survey, for another thread, or memory. */
+compressor_answer compressor_survey_facts_of(compressor_survey *survey, compressor_survey_facts *facts);
+compressor_answer compressor_survey_share(compressor_survey *survey, compressor_survey *other);
+
+/* Fills the part with the live words from number `first` on, as they are after the collection. Parts may be filled at
+   the same time, by shares; together they are the collected heap if each of its words is in one of them. Words that
+   were changed since the survey do no harm: the call writes nothing but the part. Takes no memory. Refusals:
+   NO_SUCH_PART or OTHER_COUNT, and the part is as it was; CHANGED or UNMARKED, and it has any words. If the words are
+   those of the survey, and the part ends within the live words, it is done. */
+compressor_answer compressor_survey_slide(compressor_survey *survey, const uint64_t *words, size_t word_count,
+                                          uint64_t first, uint64_t *part, size_t part_count);
+
+/* Make these lead to where their objects are after the collection, each once: null and immediates stay. Take no memory.
+   forward: BAD_ROOT, the first one that leads to no live object, and all are as they were. forward_weak: such a one
+   becomes null; for weak words in tables of the caller's own. */
+compressor_answer compressor_survey_forward(compressor_survey *survey, uint64_t *roots, size_t root_count);
+compressor_answer compressor_survey_forward_weak(compressor_survey *survey, uint64_t *words, size_t word_count);
+void compressor_survey_drop(compressor_survey *survey);
+
+/* Tables with room for a survey of so many words, for collections without memory: two bits a word, 4 bytes for each 64
+   words, and 4 a word, of which a survey touches those of the objects that it reaches. Memory. */
+compressor_answer compressor_tables_reserve(uint64_t words, compressor_tables *tables);
+/* As compressor_collect and compressor_collect_in_place, by tables, which stay. Take no memory. Refusals: BAD_EDITION;
+   TOO_LARGE; SHORT_TABLES (their room), before anything is looked at; the others as there. */
+compressor_answer compressor_collect_lent(compressor_tables *tables, uint32_t edition, const uint64_t *words,
+                                          size_t word_count, uint64_t *roots, size_t root_count, uint64_t *to,
+                                          size_t to_count);
+compressor_answer compressor_collect_in_place_lent(compressor_tables *tables, uint32_t edition, uint64_t *words,
+                                                   size_t word_count, uint64_t *roots, size_t root_count);
+/* As compressor_survey_by_roots, by tables, which go: the survey has them. If it is refused they stay. Refusals:
+   BAD_EDITION; TOO_LARGE; SHORT_TABLES (their room); a fault that is there, as above; memory, some 200 bytes. return:
+   ends the survey, which goes, and gives the tables back; answers the words for which they have room, 0 if the survey
+   was not made by any. Takes no memory. Refusals: STILL_SHARED, if another handle keeps a share. */
+compressor_answer compressor_survey_by_roots_lent(compressor_tables *tables, uint32_t edition, const uint64_t *words,
+                                                  size_t word_count, const uint64_t *roots, size_t root_count,
+                                                  compressor_survey *survey);
+compressor_answer compressor_survey_return(compressor_survey *survey, compressor_tables *tables);
+void compressor_tables_drop(compressor_tables *tables);
+
+/* A survey whose marking many threads share. begin: a job that marks what these roots reach, in a copy of these words
+   and roots. Refusals: BAD_EDITION; TOO_LARGE; memory. share: another handle of the same job, for another thread, or
+   memory. help: looks at some objects, and answers an enum compressor_help; it never waits. `who` is any number:
+   threads with different ones seldom get in each other's way. Each thread calls it until the answer is
+   COMPRESSOR_HELP_DONE, and may stop at any time all the same. Where a helper gets no memory, it gives up, and the
+   finish does the rest. */
+compressor_answer compressor_job_begin(uint32_t edition, const uint64_t *words, size_t word_count,
+                                       const uint64_t *roots, size_t root_count, compressor_job *job);
+compressor_answer compressor_job_share(compressor_job *job, compressor_job *other);
+compressor_answer compressor_job_help(compressor_job *job, uint64_t who);
+/* Finishes a job, which goes, whatever was done before. The survey is that of compressor_survey_by_roots; answers the
+   live words. Refusals: STILL_SHARED, if another handle keeps a share, and the job stays; memory, or a fault of the
+   heap as above: then the job is gone, and the survey is empty. */
+compressor_answer compressor_job_finish(compressor_job *job, compressor_survey *survey);
+void compressor_job_drop(compressor_job *job);
 
 /* THE HEAP */
 
-/* Puts a marked heap of edition 1, 2, 3 or 4 into out, whatever that kept before. The arrays are copied. The words are
-   from-space (docs/FORMATS.md), the marks the rising indices of the marked objects, the roots from-space addresses or
-   null; each root and each reference of a marked object is null or leads to a marked object. Refusals: COMP_BAD_EDITION
-   (the edition); COMP_LAYOUT + 1 to + 7 and + 13, the first fault of the heap; without memory COMP_OUT_OF_MEMORY,
-   status 9. */
-comp_answer comp_heap(comp_handle *out, uint32_t edition, const uint64_t *words, size_t word_count,
-                      const uint32_t *marks, size_t mark_count, const uint64_t *roots, size_t root_count);
+/* A marked heap, of a copy of these words, which are from-space (docs/FORMATS.md). by_marks: the rising indices of the
+   marked objects are given; each root and each reference of a marked object is null or leads to a marked object.
+   by_roots: exactly what the roots reach is marked; they may lead to any object. Refusals: BAD_EDITION; TOO_LARGE;
+   memory; OBJECT_PAST_END to BAD_WEAK, the first fault of the heap, of by_roots never MARK_NOT_START or
+   MARKS_NOT_RISING. */
+compressor_answer compressor_heap_by_marks(uint32_t edition, const uint64_t *words, size_t word_count,
+                                           const uint32_t *marks, size_t mark_count, const uint64_t *roots,
+                                           size_t root_count, compressor_heap *heap);
+compressor_answer compressor_heap_by_roots(uint32_t edition, const uint64_t *words, size_t word_count,
+                                           const uint64_t *roots, size_t root_count, compressor_heap *heap);
 
-/* The same heap, in which exactly the objects are marked that the roots reach. A root may lead to any object. Refusals
-   as of comp_heap, but never COMP_LAYOUT + 4 or + 5. */
-comp_answer comp_mark(comp_handle *out, uint32_t edition, const uint64_t *words, size_t word_count,
-                      const uint64_t *roots, size_t root_count);
+/* Its counts. Takes no memory. */
+compressor_answer compressor_heap_facts_of(compressor_heap *heap, compressor_heap_facts *facts);
 
-/* Puts the heap's plan in the place of the heap. Without memory (COMP_OUT_OF_MEMORY, status 9) the handle keeps the
-   heap. */
-comp_answer comp_plan(comp_handle *heap);
+/* A heap of the bytes of an image (docs/FORMATS.md): memory; IMAGE_..; TOO_LARGE to BAD_WEAK. The bytes of the image of
+   a heap, whose count is the answer: TOO_SHORT (the count); memory, as much again as the image. */
+compressor_answer compressor_heap_read(const uint8_t *bytes, size_t count, compressor_heap *heap);
+compressor_answer compressor_heap_write(compressor_heap *heap, uint8_t *out, size_t count);
+
+/* Judges what another collector left of this heap: the bytes are a moved heap (docs/FORMATS.md). Answers the words that
+   moved, those of the marked objects. Refusals: memory; FILE_..; MOVED_.., the first fault. */
+compressor_answer compressor_heap_judge(compressor_heap *heap, const uint8_t *bytes, size_t count);
+
+/* Plans the heap, which goes: the plan has it then. Memory. */
+compressor_answer compressor_heap_plan(compressor_heap *heap, compressor_plan *plan);
+void compressor_heap_drop(compressor_heap *heap);
+
+/* THE PLAN */
+
+/* Its counts. Takes no memory. share: another handle of the same plan, for another thread, or memory. */
+compressor_answer compressor_plan_facts_of(compressor_plan *plan, compressor_plan_facts *facts);
+compressor_answer compressor_plan_share(compressor_plan *plan, compressor_plan *other);
+
+/* Makes each of these addresses of from-space what the flip makes it: that of a marked object its to-space address;
+   null and immediates stay; a word that leads to no marked object becomes null. For side tables, weak maps, finalizers;
+   each once. Takes no memory. */
+compressor_answer compressor_plan_forward(compressor_plan *plan, uint64_t *addresses, size_t count);
+
+/* The slid words of a compacted page, as nobody has written to them; zeros behind the last one. Refusals: NO_SUCH_PAGE;
+   memory. */
+compressor_answer compressor_plan_page(compressor_plan *plan, uint64_t page, uint64_t out[64]);
+
+/* Flips the heap of the plan, which stays, and may be dropped at once, for a new crew. Answers how many mutators it
+   keeps; their numbers are those from 0 on. From now on addresses are those of to-space, from compressor_mutator_root
+   on. Of n mutators number k alone makes objects on the fresh pages k, k + n, k + 2n .., counted from 0. So one that
+   only sweeps has its share too, and leaves it unused: ask for more.
+   Condition: the name is that of no other crew that is alive, that is, which a handle keeps, or one of whose mutators.
+   Refusals: BAD_MUTATORS; TOO_MANY_PAGES, more than the edition allows, or than leave room for a next heap: all pages
+   are its words; memory. */
+compressor_answer compressor_plan_flip(compressor_plan *plan, uint64_t name, uint32_t mutators, uint32_t fresh_pages,
+                                       compressor_crew *crew);
+
+enum compressor_audit_options {
+    COMPRESSOR_WHOLE = 1, /* each compacted page has to be built */
+    COMPRESSOR_WORDS = 2  /* the bytes are a file of words, and no dump */
+};
+/* Judges a dump (docs/FORMATS.md) for the heap of the plan; options are 0, or those above added. Answers the live
+   words. Refusals: BAD_OPTIONS; memory; FILE_..; WRONG_WORD to PAGE_MISSING, the first fault. The dump of each finished
+   heap is lawful for its own plan, so a runtime may check itself in its debug builds: without options a fault never
+   comes then. */
+compressor_answer compressor_plan_audit(compressor_plan *plan, const uint8_t *bytes, size_t count, uint32_t options);
+/* The same, and of the first fault what is wrong where: a few lines of ASCII, with no 0 at the end. Answers how many
+   bytes they have, 0 if there is no fault. Refusals: BAD_OPTIONS; memory; FILE_..; TOO_SHORT (the count). */
+compressor_answer compressor_plan_explain(compressor_plan *plan, const uint8_t *bytes, size_t count, uint32_t options,
+                                          uint8_t *out, size_t out_count);
+void compressor_plan_drop(compressor_plan *plan);
 
 /* THE CREW */
 
-/* Flips the heap of the plan. crew keeps all its mutators then, whatever it kept before, and plan stays as it is: it
-   may be dropped at once. Answers how many mutators there are; their numbers are those from 0 on. From now on addresses
-   are those of to-space, from comp_root on.
-   Condition: the name is that of no other crew that is alive, that is, which a handle keeps, or one of whose mutators.
-   Fresh pages are dealt out to all mutators alike, in turn: of n mutators number k alone makes objects on the fresh
-   pages k, k + n, k + 2n and so on, counted from 0. So a mutator that only sweeps has its share too, and leaves it
-   unused: ask for more. With too many pages in all no cycle follows on this one (comp_next).
-   Refusals: COMP_BAD_COUNTS, exactly if mutators is not 1 to 64, or fresh_pages is above 4,096 in editions one and two,
-   or above 2^20 in editions three and four; so never COMP_OUT_OF_MEMORY in its place. */
-comp_answer comp_flip(comp_handle *plan, uint64_t name, uint32_t mutators, uint32_t fresh_pages, comp_handle *crew);
+/* Takes the mutator out that was handed back last; after a flip the one with the greatest number. Answers its number.
+   Refusals: NO_MUTATOR_LEFT; memory. */
+compressor_answer compressor_crew_take(compressor_crew *crew, compressor_mutator *mutator);
+/* Hands a mutator back, which goes. Takes no memory: the room is kept. Condition: crews that are alive have different
+   names (compressor_plan_flip). Refusals: OTHER_CREW, if its crew has another name, or if no mutator of this one is
+   out. */
+compressor_answer compressor_crew_give(compressor_crew *crew, compressor_mutator *mutator);
+/* Ends the cycle of the crew, which goes, after all its mutators were handed back, in any order. Answers the live
+   words: those that slid and those of new objects. No page has to be swept: if nobody has built a page, its words are
+   those of the plan, or zeros if it is fresh; the next heap has them. Refusals, after each of which the crew has all
+   mutators that it had: MUTATOR_MISSING; memory; STILL_SHARED. */
+compressor_answer compressor_crew_finish(compressor_crew *crew, compressor_end *end);
+/* Drops the mutators that are in it. Without one of its mutators a crew is never finished. */
+void compressor_crew_drop(compressor_crew *crew);
 
-/* Takes a mutator out of the crew into out, whatever that kept before, and answers its number. It is the one that was
-   handed back last, and after a flip the one with the greatest number. Refusals: COMP_NO_MUTATOR_LEFT. */
-comp_answer comp_take(comp_handle *crew, comp_handle *out);
+/* THE MUTATOR. Objects are to-space addresses of objects that it knows: those that slid, that it made, that a read
+   answered it, that are on a page that it copied, and that another mutator knew when they met. Fields of each kind are
+   counted from 0. After OUT_OF_MEMORY the page of the word may be built, after BUSY and JOURNAL_FULL of a write or an
+   allocation too; a refused call changes nothing else, and a refused touch nothing at all. */
 
-/* Hands a mutator back to its crew: its handle is empty then. Takes no memory.
-   Condition: crews that are alive have different names (comp_flip).
-   Refusals: COMP_OTHER_CREW, if the mutator's crew has another name, or if no mutator of this crew is out. */
-comp_answer comp_give(comp_handle *crew, comp_handle *mutator);
+/* Answer the word; a reference or a weak word is then known. Refusals: NULL_OBJECT; NOT_A_START (the object);
+   NO_SUCH_FIELD; and, only if the mutator does not know that the page is built, BUSY or memory. */
+compressor_answer compressor_mutator_read_ref(compressor_mutator *mutator, uint64_t object, uint32_t field);
+compressor_answer compressor_mutator_read_weak(compressor_mutator *mutator, uint64_t object, uint32_t field);
+compressor_answer compressor_mutator_read_data(compressor_mutator *mutator, uint64_t object, uint32_t field);
 
-/* Puts the finished heap in the place of the crew, all of whose mutators were handed back, in any order. Answers the
-   number of live words: those that slid and those of new objects. No page has to be swept. If nobody has built a page,
-   its words are those of the plan, or zeros if it is fresh: nothing is lost, and the next heap has them.
-   Refusals: COMP_MUTATOR_MISSING (the least number of a mutator that was not handed back), before anything is done.
-   Of a crew that is whole COMP_OUT_OF_MEMORY, and COMP_STILL_SHARED: a mutator that is out shares the crew, and nothing
-   else does, so a caller that keeps all conditions is never answered this. After each refusal the crew has all mutators
-   that it had, and may be finished later. */
-comp_answer comp_finish(comp_handle *crew);
+/* Write one word, whole, and answer the entry's stamp. A reference or a weak word is null or the address of an object
+   that the mutator knows; data is any word. Refusals: NULL_OBJECT; NOT_A_START (the object); NO_SUCH_FIELD;
+   NOT_A_START (the value); BUSY, JOURNAL_FULL or memory. */
+compressor_answer compressor_mutator_write_ref(compressor_mutator *mutator, uint64_t object, uint32_t field,
+                                               uint64_t value);
+compressor_answer compressor_mutator_write_weak(compressor_mutator *mutator, uint64_t object, uint32_t field,
+                                                uint64_t value);
+compressor_answer compressor_mutator_write_data(compressor_mutator *mutator, uint64_t object, uint32_t field,
+                                                uint64_t value);
 
-/* THE MUTATOR */
+/* Makes an object with this header word, of nulls and zeros, on the lowest of its own fresh pages that has room.
+   Answers its address. compressor_shape_header makes the word. Refusals: OBJECT_TOO_LARGE (its words); OUT_OF_PAGES;
+   BUSY, JOURNAL_FULL or memory. */
+compressor_answer compressor_mutator_alloc(compressor_mutator *mutator, uint64_t header);
 
-/* Reads of a field. The object is the to-space address of an object that the mutator knows: one that slid, that it
-   made, that a read answered it, or that another mutator knew when they met. Fields of each kind are counted from 0.
-   Answers the word: for a reference or a weak word null, or the address of an object that it knows from then on. If
-   nobody has built the word's page, the read builds it.
-   Refusals: COMP_NULL; COMP_NOT_A_START (the address); COMP_NO_SUCH_FIELD; then COMP_BUSY (the page): another mutator
-   builds the page; COMP_OUT_OF_MEMORY, for a page that the mutator did not know to be built. After these two the page
-   may be built. */
-comp_answer comp_read_ref(comp_handle *mutator, uint64_t object, uint32_t field);
-comp_answer comp_read_weak(comp_handle *mutator, uint64_t object, uint32_t field);
-comp_answer comp_read_data(comp_handle *mutator, uint64_t object, uint32_t field);
+/* Builds a page if nobody has: answers 1 if this call did, else 0. To sweep is to touch each page below
+   compacted_pages of the facts, by any mutators. Refusals: NO_SUCH_PAGE; BUSY or memory. */
+compressor_answer compressor_mutator_touch(compressor_mutator *mutator, uint64_t page);
+/* The page's words as the mutator has then seen them, while others go on; answers how many entries it has. Builds the
+   page if nobody has. Refusals: NO_SUCH_PAGE; BUSY or memory. */
+compressor_answer compressor_mutator_page(compressor_mutator *mutator, uint64_t page, uint64_t out[64]);
 
-/* Writes of a field: one word, whole, and one entry. Answers the entry's stamp. For a reference or a weak word the
-   value is null or the address of an object that the mutator knows, for a data word any word. If nobody has built the
-   word's page, the write builds it.
-   Refusals: COMP_NULL; COMP_NOT_A_START (the address of the object); COMP_NO_SUCH_FIELD; COMP_NOT_A_START (the value);
-   then COMP_BUSY (the page): another mutator builds the page, or writes into it; COMP_JOURNAL_FULL (the page);
-   COMP_OUT_OF_MEMORY, for the page or the entry. After these three the page may be built. None wrote anything. */
-comp_answer comp_write_ref(comp_handle *mutator, uint64_t object, uint32_t field, uint64_t value);
-comp_answer comp_write_weak(comp_handle *mutator, uint64_t object, uint32_t field, uint64_t value);
-comp_answer comp_write_data(comp_handle *mutator, uint64_t object, uint32_t field, uint64_t value);
+/* Take no memory. Where a root leads, or NO_SUCH_ROOT; all roots in order, whose count is the answer, or TOO_SHORT;
+   the page that it built as the one with this number, or NO_SUCH_BUILD; what facts say now. */
+compressor_answer compressor_mutator_root(compressor_mutator *mutator, uint64_t number);
+compressor_answer compressor_mutator_roots(compressor_mutator *mutator, uint64_t *out, size_t count);
+compressor_answer compressor_mutator_build(compressor_mutator *mutator, uint64_t number);
+compressor_answer compressor_mutator_facts_of(compressor_mutator *mutator, compressor_mutator_facts *facts);
+/* Each has then seen what the other has seen, and knows the objects that the other knew. Takes no memory. Condition:
+   crews that are alive have different names (compressor_plan_flip). Refusals: OTHER_CREW. */
+compressor_answer compressor_mutator_meet(compressor_mutator *mutator, compressor_mutator *other);
+void compressor_mutator_drop(compressor_mutator *mutator);
 
-/* Makes an object of null references, null weak words and zero data words, on the lowest of the mutator's own fresh
-   pages that has room. It has 1 + refs + weak + data_words words, at most 64. Answers its address.
-   Refusals: COMP_NOT_IN_EDITION, for weak words in edition one, a tag of 2^16 or more in edition two, of 2^14 or more
-   in editions three and four; COMP_OBJECT_TOO_LARGE; COMP_OUT_OF_PAGES; then for the page with room COMP_BUSY (the
-   page), COMP_JOURNAL_FULL (the page) and COMP_OUT_OF_MEMORY: after these three that page may be built. None made an
-   object. A count above 65,535 is taken as 65,535, which is too large as well. */
-comp_answer comp_alloc(comp_handle *mutator, uint32_t refs, uint32_t weak, uint32_t data_words, uint32_t tag);
+/* THE FINISHED CYCLE */
 
-/* Builds a page if nobody has. Answers 1 if this call built it, else 0. To sweep is to touch each page below
-   comp_compacted_pages, by any mutators. Refusals: COMP_NO_SUCH_PAGE (the page), before all others; COMP_BUSY (the
-   page): another mutator builds it; COMP_OUT_OF_MEMORY, for a page that the mutator did not know to be built. A refused
-   touch built nothing. */
-comp_answer comp_touch(comp_handle *mutator, uint64_t page);
+/* Take no memory. The words of a page, and how many entries it has: NO_SUCH_PAGE, NOT_BUILT. An entry, in the order
+   of the writes: also NO_SUCH_ENTRY. All roots, whose count is the answer: TOO_SHORT. How many pages a mutator built,
+   and which: NO_SUCH_MUTATOR, NO_SUCH_BUILD. */
+compressor_answer compressor_end_facts_of(compressor_end *end, compressor_end_facts *facts);
+compressor_answer compressor_end_page(compressor_end *end, uint64_t page, uint64_t out[64]);
+compressor_answer compressor_end_entry(compressor_end *end, uint64_t page, uint64_t number, compressor_entry *entry);
+compressor_answer compressor_end_roots(compressor_end *end, uint64_t *out, size_t count);
+compressor_answer compressor_end_builds(compressor_end *end, uint32_t mutator);
+compressor_answer compressor_end_build(compressor_end *end, uint32_t mutator, uint64_t number);
 
-/* These change nothing, and take no memory. comp_root answers where a root of the heap leads, a to-space address or
-   null, or COMP_NO_SUCH_ROOT (the number); comp_pages how many pages there are; comp_compacted_pages how many of them
-   are compacted, which come first: the fresh ones follow; comp_number the mutator's number. */
-comp_answer comp_root(comp_handle *mutator, uint64_t number);
-comp_answer comp_pages(comp_handle *mutator);
-comp_answer comp_compacted_pages(comp_handle *mutator);
-comp_answer comp_number(comp_handle *mutator);
+/* The heap with which the next cycle begins, with these roots, to-space addresses of the finished heap or null; the end
+   goes. It has the words of all pages. by_marks: of these rising indices, where the object at the address a has
+   a - COMPRESSOR_TO_SPACE. by_roots: exactly what the roots reach is marked, and the rest is dropped. Refusals:
+   TOO_LARGE (words, marks or roots); memory; MARK_NOT_START, MARKS_NOT_RISING, BAD_ROOT or UNMARKED_TARGET, the first
+   fault, of by_roots only BAD_ROOT. */
+compressor_answer compressor_end_next_by_marks(compressor_end *end, const uint32_t *marks, size_t mark_count,
+                                               const uint64_t *roots, size_t root_count, compressor_heap *heap);
+compressor_answer compressor_end_next_by_roots(compressor_end *end, const uint64_t *roots, size_t root_count,
+                                               compressor_heap *heap);
 
-/* All forwarded roots, in order: out has them at its front, and the answer how many they are. COMP_TOO_SHORT has that
-   number too. Takes no memory. Of this call and of each other one with a buffer: out is not NULL, even if count is 0;
-   words or bytes after those that the answer counts stay as they were; after any refusal the whole buffer stays as it
-   was. */
-comp_answer comp_roots(comp_handle *mutator, uint64_t *out, size_t count);
+/* The heap comes to rest: `words` has then the words of all pages, also of those that nobody built, with addresses of
+   from-space, and `roots` all roots so. Answers the count of the words, rest_words of the facts; those in no object are
+   0. The end stays. Addresses that the caller kept become compressor_rested(address). It takes as much memory as the
+   words, for a while. Refusals: TOO_SHORT (the words; 0, or the roots; 1); memory. */
+compressor_answer compressor_end_rest(compressor_end *end, uint64_t *words, size_t word_count, uint64_t *roots,
+                                      size_t root_count);
+static inline uint64_t compressor_rested(uint64_t address) {
+    return address == 0 || address >= COMPRESSOR_IMMEDIATE ? address
+                                                           : address - (COMPRESSOR_TO_SPACE - COMPRESSOR_FROM_SPACE);
+}
 
-/* What the mutator did in this cycle: how many pages it built, and which was the one with this number, from 0 on; how
-   many entries it wrote, one for each write and each allocation that was done; how many words all objects have that it
-   allocated. These calls take no memory. Refusals: COMP_NO_SUCH_BUILD (the number). */
-comp_answer comp_builds(comp_handle *mutator);
-comp_answer comp_build(comp_handle *mutator, uint64_t number);
-comp_answer comp_entries(comp_handle *mutator);
-comp_answer comp_made_words(comp_handle *mutator);
+/* The dump (docs/FORMATS.md), with the counts of its flip: the count of its bytes is the answer. Refusals: memory;
+   TOO_SHORT (the count). */
+compressor_answer compressor_end_write(compressor_end *end, uint8_t *out, size_t count);
+void compressor_end_drop(compressor_end *end);
 
-/* Copies a page while other mutators go on: its 64 words as the mutator has then seen them. Answers how many entries
-   the page's journal has then. It builds the page if nobody has. Refusals: COMP_NO_SUCH_PAGE (the page), before all
-   others; COMP_BUSY (the page) and COMP_OUT_OF_MEMORY: after these two the page may be built. */
-comp_answer comp_page_copy(comp_handle *mutator, uint64_t page, uint64_t out[64]);
-
-/* Two mutators meet: each has then seen what the other has seen, and knows the objects that the other knew. Takes no
-   memory. Condition: crews that are alive have different names (comp_flip). Refusals: COMP_OTHER_CREW, if the names of
-   their crews differ. */
-comp_answer comp_meet(comp_handle *mutator, comp_handle *other);
-
-/* THE FINISHED HEAP */
-
-/* These change nothing, and take no memory. They answer the number of live words; how many pages there are; where a
-   root leads at the end, as comp_root does, or COMP_NO_SUCH_ROOT (the number). */
-comp_answer comp_live_words(comp_handle *end);
-comp_answer comp_end_pages(comp_handle *end);
-comp_answer comp_end_root(comp_handle *end, uint64_t number);
-
-/* Copies the 64 words of a page to out, and answers how many entries its journal has. Takes no memory. Refusals:
-   COMP_NO_SUCH_PAGE (the page); COMP_NOT_BUILT (the page): its words are those of the plan, or zeros if it is fresh,
-   and it has no entries. */
-comp_answer comp_page_words(comp_handle *end, uint64_t page, uint64_t out[64]);
-
-/* Copies an entry of the page's journal to out, counted from 0 in the order of the writes. Takes no memory. Refusals:
-   those of comp_page_words; COMP_NO_SUCH_ENTRY (the number). */
-comp_answer comp_page_entry(comp_handle *end, uint64_t page, uint64_t number, comp_entry *out);
-
-/* All roots of a finished heap, as comp_roots has them. Takes no memory. */
-comp_answer comp_end_roots(comp_handle *end, uint64_t *out, size_t count);
-
-/* How many pages the mutator of this number built in the cycle, and which was the one with that number, from 0 on.
-   Each page that was built is one of one mutator. These calls take no memory. Refusals: COMP_NO_SUCH_MUTATOR (the
-   mutator's number); COMP_NO_SUCH_BUILD (the number). */
-comp_answer comp_end_builds(comp_handle *end, uint32_t mutator);
-comp_answer comp_end_build(comp_handle *end, uint32_t mutator, uint64_t number);
-
-/* Puts the heap with which the next cycle begins in the place of the finished heap. It has the words of all pages, and
-   the roots of the end. The marks are the rising indices of the words at which the marked objects start: the index of
-   the to-space address a is a - 2^33. Refusals: COMP_LAYOUT + 1, more words or marks than the edition allows, before
-   COMP_OUT_OF_MEMORY; COMP_LAYOUT + 4 to + 7, the first fault of the next heap.
-   All pages, fresh ones too, are words of the next heap. So a cycle of more than 16,384 pages, or of more than 2^25 in
-   editions three and four, can be flipped and finished, but never followed: that is COMP_LAYOUT + 1. */
-comp_answer comp_next(comp_handle *end, const uint32_t *marks, size_t mark_count);
-
-/* The same, with other roots and marks that are found: the roots of the next heap are these to-space addresses of the
-   finished heap, or null, and exactly the objects are marked that they reach. What they do not reach is dropped.
-   Refusals: COMP_LAYOUT + 1, more words or roots than the edition allows, before COMP_OUT_OF_MEMORY; COMP_LAYOUT + 6
-   (the number of the first such root), a root that is neither null nor the start of an object. */
-comp_answer comp_next_reached(comp_handle *end, const uint64_t *roots, size_t root_count);
-
-/* A marked heap of any edition, from the bytes of its image (docs/FORMATS.md). The fault of an image is answered as
-   that of a heap. */
-comp_answer comp_read_image(comp_handle *out, const uint8_t *bytes, size_t count);
-
-/* The image of a marked heap: how many bytes it has, which takes no memory, and a copy of them, which takes as much
-   memory again while it is made. */
-comp_answer comp_image_size(comp_handle *heap);
-comp_answer comp_write_image(comp_handle *heap, uint8_t *out, size_t count);
-
-/* The dump of a finished heap (docs/FORMATS.md), with the numbers of mutators and of fresh pages of its flip: how many
-   bytes it has, and a copy of them, which takes as much memory again while it is made. */
-comp_answer comp_dump_size(comp_handle *end);
-comp_answer comp_dump(comp_handle *end, uint8_t *out, size_t count);
-
-/* Judges a dump for the heap of this plan. COMP_DONE says that it is a lawful end of a cycle which compacted that heap,
-   and answers the live words. Else the answer is the first fault: COMP_AUDIT + n with the address, page or stamp that
-   it names (of A3 the page), or COMP_DUMP + n if the bytes are no dump. The dump of each finished heap is lawful for
-   its own plan, so a runtime may check itself in its debug builds: COMP_AUDIT + n never comes then. */
-comp_answer comp_audit(comp_handle *plan, const uint8_t *bytes, size_t count);
-
-/* Drops what a handle keeps, and gives its memory back. The handle is empty then; an empty one stays so. A crew can no
-   longer be finished once one of its mutators is dropped. */
-void comp_drop(comp_handle *handle);
+/* What the archive was built with. */
+COMPRESSOR_ASSERT_(sizeof(void *) == 8 && sizeof(size_t) == 8, "64 bits");
+COMPRESSOR_ASSERT_(sizeof(compressor_heap) == 8 && sizeof(compressor_plan) == 8 && sizeof(compressor_crew) == 8,
+                   "handles");
+COMPRESSOR_ASSERT_(sizeof(compressor_mutator) == 8 && sizeof(compressor_end) == 8, "handles");
+COMPRESSOR_ASSERT_(sizeof(compressor_survey) == 8 && sizeof(compressor_tables) == 8 && sizeof(compressor_job) == 8,
+                   "handles");
+COMPRESSOR_ASSERT_(sizeof(compressor_answer) == 16 && offsetof(compressor_answer, other) == 4, "answer");
+COMPRESSOR_ASSERT_(offsetof(compressor_answer, value) == 8, "answer");
+COMPRESSOR_ASSERT_(sizeof(compressor_entry) == 24 && offsetof(compressor_entry, writer) == 16, "entry");
+COMPRESSOR_ASSERT_(offsetof(compressor_entry, kind) == 17 && offsetof(compressor_entry, offset) == 18, "entry");
+COMPRESSOR_ASSERT_(sizeof(compressor_shape) == 16 && offsetof(compressor_shape, tag) == 12, "shape");
+COMPRESSOR_ASSERT_(sizeof(compressor_heap_facts) == 32 && offsetof(compressor_heap_facts, unused) == 28, "heap facts");
+COMPRESSOR_ASSERT_(sizeof(compressor_plan_facts) == 40 && offsetof(compressor_plan_facts, unused) == 36, "plan facts");
+COMPRESSOR_ASSERT_(sizeof(compressor_mutator_facts) == 64 && offsetof(compressor_mutator_facts, unused) == 60,
+                   "mutator facts");
+COMPRESSOR_ASSERT_(sizeof(compressor_end_facts) == 48 && offsetof(compressor_end_facts, mutators) == 44, "end facts");
+COMPRESSOR_ASSERT_(sizeof(compressor_survey_facts) == 8, "survey facts");
 
 #ifdef __cplusplus
 }

@@ -13,6 +13,7 @@ use Rattle.comp_crew.specs.declared.crew.Crew.{Crew}
 use Rattle.comp_crew.specs.declared.finishing.Ended.{Ended as End}
 use Rattle.comp_crew.specs.declared.member.Member.{Member}
 use Rattle.comp_handle.specs.Joining.{AreMet}
+use Rattle.comp_handle.specs.Kinds.{crew_in, mutator_in}
 use Rattle.comp_handle.specs.declared.kept.Kept.{Kept}
 use Rattle.comp_handle.specs.declared.kept.Kept.TheVariants as kept
 
@@ -22,11 +23,11 @@ KeepsHeap heap k = k ≡ Some (kept.Heap heap)
 
 -- the handle keeps this crew
 abbrev pub KeepsCrew : Crew → Option Kept → Type 0
-KeepsCrew crew k = (bench : Bench) × (k ≡ Some (kept.Crew bench)) × (crew_on bench ≡ crew)
+KeepsCrew crew k = (bench : Bench) × (crew_in k ≡ Some bench) × (crew_on bench ≡ crew)
 
 -- the handle keeps a mutator of this crew
 abbrev pub KeepsMutator : Crew → Option Kept → Type 0
-KeepsMutator crew k = (m : Member) × (k ≡ Some (kept.Mutator m)) × (crew_of m ≡ crew)
+KeepsMutator crew k = (m : Member) × (mutator_in k ≡ Some m) × (crew_of m ≡ crew)
 
 -- the handle keeps the end of a cycle of this heap
 abbrev pub KeepsEnd : Heap → Option Kept → Type 0
@@ -39,20 +40,17 @@ KeepsFlip heap name k = (crew : Crew) × KeepsCrew crew k × (crew.name ≡ name
 -- this mutator left the crew that is kept, and another handle keeps it
 abbrev pub HasTaken : Option Kept → Option Kept → Option Kept → Type 0
 HasTaken crew left own =
-    (before : Bench) × (after : Bench) × (m : Member) × (crew ≡ Some (kept.Crew before)) × (left ≡ Some (kept.Crew after)) × (own ≡ Some (kept.Mutator m))
-    × IsTaken before after (Some m)
+    (before : Bench) × (after : Bench) × (m : Member) × (crew_in crew ≡ Some before) × (crew_in left ≡ Some after) × (mutator_in own ≡ Some m) × IsTaken before after (Some m)
 
 -- the mutator that was kept went back to the crew, and its handle is empty
 abbrev pub HasGiven : Option Kept → Option Kept → Option Kept → Option Kept → Type 0
 HasGiven crew own left rest =
-    (before : Bench) × (after : Bench) × (m : Member) × (crew ≡ Some (kept.Crew before)) × (own ≡ Some (kept.Mutator m)) × (left ≡ Some (kept.Crew after))
-    × IsGiven before m after × (rest ≡ None)
+    (before : Bench) × (after : Bench) × (m : Member) × (crew_in crew ≡ Some before) × (mutator_in own ≡ Some m) × (crew_in left ≡ Some after) × IsGiven before m after × (rest ≡ None)
 
 -- the two mutators that were kept have met
 abbrev pub HaveMet : Option Kept → Option Kept → Option Kept → Option Kept → Type 0
 HaveMet first other left rest =
-    (m : Member) × (o : Member) × (n : Member) × (p : Member) × (first ≡ Some (kept.Mutator m)) × (other ≡ Some (kept.Mutator o))
-    × (left ≡ Some (kept.Mutator n)) × (rest ≡ Some (kept.Mutator p)) × AreMet m o n p
+    (m : Member) × (o : Member) × (n : Member) × (p : Member) × (mutator_in first ≡ Some m) × (mutator_in other ≡ Some o) × (mutator_in left ≡ Some n) × (mutator_in rest ≡ Some p) × AreMet m o n p
 
 -- the handles keep a crew, and a mutator of it
 abbrev pub AreOfOneCrew : Option Kept → Option Kept → Type 0

@@ -3,24 +3,24 @@ ghost use Rattle.std.specs.Prelude.{◌≡◌, IsTrue};
 ghost use Rattle.heap_layout.specs.Heap.{Heap};
 ghost use Rattle.comp_crew.specs.Members.{setup_in};
 ghost use Rattle.comp_crew.specs.declared.crew.Crew.{Crew};
-ghost use Rattle.comp_handle.specs.Crewing.{planned};
+ghost use Rattle.comp_handle.specs.Kinds.{plan_in};
 ghost use Rattle.std.specs.Prelude.{Some};
 ghost use Rattle.proved_crews.specs.Crews.{AreFellows, AreOfOneCrew, HasGiven, HasTaken, HaveMet, KeepsCrew, KeepsEnd, KeepsFlip, KeepsHeap, KeepsMutator, KeepsNext};
 
 use comp_handle::Handle;
 use std::alloc::Global;
 
-/// Plans the heap of a handle.
-pub fn plan(alloc: Global, h: &mut Handle) -> bool
-    ensures { IsTrue result → (heap : Heap) → KeepsHeap heap h.old.kept → planned h.new.kept ≡ Some heap }
+/// Plans the heap of a handle. The handle of the plan keeps it then.
+pub fn plan(alloc: Global, h: &mut Handle, plan: &mut Handle) -> bool
+    ensures { IsTrue result → (heap : Heap) → KeepsHeap heap h.old.kept → plan_in plan.new.kept ≡ Some heap }
 {
-    comp_handle::plan_heap(alloc, h).status == 0
+    comp_handle::plan_heap(alloc, h, plan).status == 0
 }
 
 /// Flips the heap of a plan for a crew of this name.
 pub fn flip(alloc: Global, plan: &mut Handle, name: u64, n: u32, crew: &mut Handle) -> bool
     ensures same { plan.new.kept ≡ plan.old.kept }
-    ensures flipped { IsTrue result → (heap : Heap) × (planned plan.old.kept ≡ Some heap) × KeepsFlip heap name crew.new.kept }
+    ensures flipped { IsTrue result → (heap : Heap) × (plan_in plan.old.kept ≡ Some heap) × KeepsFlip heap name crew.new.kept }
 {
     comp_handle::flip_crew(alloc, plan, name, n, 2, crew).status == 0
 }
@@ -51,16 +51,16 @@ pub fn give(alloc: Global, crew: &mut Handle, m: &mut Handle) -> bool
     comp_handle::give_member(alloc, crew, m).status == 0
 }
 
-/// Finishes a crew.
-pub fn finish(alloc: Global, crew: &mut Handle) -> bool
-    ensures { IsTrue result → (c : Crew) → KeepsCrew c crew.old.kept → KeepsEnd (setup_in c).heap crew.new.kept }
+/// Finishes a crew. The handle of the end keeps the finished heap then.
+pub fn finish(alloc: Global, crew: &mut Handle, end: &mut Handle) -> bool
+    ensures { IsTrue result → (c : Crew) → KeepsCrew c crew.old.kept → KeepsEnd (setup_in c).heap end.new.kept }
 {
-    comp_handle::finish_crew(alloc, crew).status == 0
+    comp_handle::finish_crew(alloc, crew, end).status == 0
 }
 
-/// Makes the heap with which the next cycle begins.
-pub fn follow(alloc: Global, end: &mut Handle, roots: &[u64]) -> bool
-    ensures { IsTrue result → (heap : Heap) → KeepsEnd heap end.old.kept → KeepsNext heap roots.now end.new.kept }
+/// Makes the heap with which the next cycle begins. The handle of the heap keeps it then.
+pub fn follow(alloc: Global, end: &mut Handle, roots: &[u64], next: &mut Handle) -> bool
+    ensures { IsTrue result → (heap : Heap) → KeepsEnd heap end.old.kept → KeepsNext heap roots.now next.new.kept }
 {
-    comp_handle::follow_reached(alloc, end, roots).status == 0
+    comp_handle::follow_reached(alloc, end, roots, next).status == 0
 }

@@ -9,36 +9,39 @@ use comp_handle::{Handle, Kept};
 use heap_layout::MarkedHeap;
 use std::alloc::Global;
 
-// Flips the heap of the first handle for two crews, mixes their mutators up, and finishes both. Of what the first crew
-// left it makes the next heap, with these roots.
-fn turn(
-    alloc: Global,
-    heap: &mut Handle,
-    first: &mut Handle,
-    second: &mut Handle,
-    roots: &[u64],
-) -> bool
-    ensures { IsTrue result → (h : Heap) → KeepsHeap h heap.old.kept → KeepsNext h roots.now first.new.kept }
+// The handles of a cycle.
+struct Handles {
+    plan: Handle,
+    first: Handle,
+    second: Handle,
+    first_end: Handle,
+    second_end: Handle,
+}
+
+// Flips the heap of a handle for two crews, mixes their mutators up, and finishes both. Of what the first crew left it
+// makes the next heap, with these roots, which the same handle keeps then.
+fn turn(alloc: Global, heap: &mut Handle, own: &mut Handles, roots: &[u64]) -> bool
+    ensures { IsTrue result → (h : Heap) → KeepsHeap h heap.old.kept → KeepsNext h roots.now heap.new.kept }
 {
-    if !plan(alloc, heap) {
+    if !plan(alloc, heap, &mut own.plan) {
         return false;
     }
-    if !flip(alloc, heap, 1, 2, first) {
+    if !flip(alloc, &mut own.plan, 1, 2, &mut own.first) {
         return false;
     }
-    if !flip(alloc, heap, 2, 1, second) {
+    if !flip(alloc, &mut own.plan, 2, 1, &mut own.second) {
         return false;
     }
-    if !mix_up(alloc, first, second) {
+    if !mix_up(alloc, &mut own.first, &mut own.second) {
         return false;
     }
-    if !finish(alloc, second) {
+    if !finish(alloc, &mut own.second, &mut own.second_end) {
         return false;
     }
-    if !finish(alloc, first) {
+    if !finish(alloc, &mut own.first, &mut own.first_end) {
         return false;
     }
-    follow(alloc, first, roots)
+    follow(alloc, &mut own.first_end, roots, heap)
 }
 
 // The heap that a handle keeps.
@@ -62,16 +65,31 @@ fn cycle(alloc: Global, heap: MarkedHeap, roots: &[u64]) -> Option<MarkedHeap>
     };
     let mut h = Handle::empty(alloc);
     h.put(room);
-    let mut first = Handle::empty(alloc);
-    let mut second = Handle::empty(alloc);
-    let next = if turn(alloc, &mut h, &mut first, &mut second, roots) {
-        heap_in(alloc, &mut first)
+    let mut own = Handles {
+        plan: Handle::empty(alloc),
+        first: Handle::empty(alloc),
+        second: Handle::empty(alloc),
+        first_end: Handle::empty(alloc),
+        second_end: Handle::empty(alloc),
+    };
+    let next = if turn(alloc, &mut h, &mut own, roots) {
+        heap_in(alloc, &mut h)
     } else {
         None
     };
     end(alloc, h);
+    let Handles {
+        plan,
+        first,
+        second,
+        first_end,
+        second_end,
+    } = own;
+    end(alloc, plan);
     end(alloc, first);
     end(alloc, second);
+    end(alloc, first_end);
+    end(alloc, second_end);
     next
 }
 

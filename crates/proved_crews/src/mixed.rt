@@ -11,7 +11,7 @@ use std::alloc::Global;
 /// Hands a mutator to a crew of another name. It is refused as that of another crew, and nothing has changed.
 pub fn give_wrongly(alloc: Global, crew: &mut Handle, m: &mut Handle) -> Answer
     requires { AreMixed crew.old.kept m.old.kept }
-    ensures other { result ≡ bare 16 0 }
+    ensures other { result ≡ bare 17 0 }
     ensures same { (crew.new.kept ≡ crew.old.kept) × (m.new.kept ≡ m.old.kept) }
 {
     give_member(alloc, crew, m)

@@ -1,34 +1,18 @@
-use Rattle.std.proofs.Common.{Option, inl, sym, subst, ◌∙◌}
-use Rattle.comp_handle.specs.Joining.{Joins}
+use Rattle.std.proofs.Common.{Option, inl, ap}
+use Rattle.comp_handle.specs.Kinds.{crew_in, mutator_in}
 use Rattle.comp_handle.specs.declared.kept.Kept.{Kept}
+use Rattle.comp_handle.proofs.Joined.{joined, kept_is}
 use Rattle.comp_handle.proofs.joining.give_member.Goals as goal
 
-pub returns-in-Some-rest : goal.returns-in-Some-rest
-returns-in-Some-rest c =
-    let k = c.in-Some-open.field-0.kept in
-    let o = c.in-Some.field-0.kept in
-    let joined = c.join_crew-kept.result in
-    inl (
-      k,
-      o,
-      joined.kept,
-      c.in-Some-open.ensures.opened.0,
-      c.in-Some.ensures.opened.0,
-      c.close-2.ensures,
-      subst (λ (r : Option Kept). Joins k o joined.kept r joined.answer) (c.in-Some-rest.is ∙ sym c.close-in-Some-rest.ensures) c.join_crew-kept.ensures.joins,
-    )
+pub give-given-requires-clause-apart : goal.give-given-requires-clause-apart
+give-given-requires-clause-apart c =
+    c.requires c.in-Ok.bench c.in-Ok-into_mutator.m
+    (ap (λ (h : Option Kept). crew_in h) (kept_is _ _ _ c.in-Some.ensures.opened.0 c.in-Ok.ensures.crew))
+    (ap (λ (h : Option Kept). mutator_in h) (kept_is _ _ _ c.in-Some-open.ensures.opened.0 c.in-Ok-into_mutator.ensures.mutator))
 
-pub returns-in-None : goal.returns-in-None
-returns-in-None c =
-    let k = c.in-Some-open.field-0.kept in
-    let o = c.in-Some.field-0.kept in
-    let joined = c.join_crew-kept.result in
-    inl (
-      k,
-      o,
-      joined.kept,
-      c.in-Some-open.ensures.opened.0,
-      c.in-Some.ensures.opened.0,
-      c.close-2.ensures,
-      subst (λ (r : Option Kept). Joins k o joined.kept r joined.answer) (c.in-None.is ∙ sym c.open.ensures.empty) c.join_crew-kept.ensures.joins,
-    )
+pub returns-in-Ok-given : goal.returns-in-Ok-given
+returns-in-Ok-given c =
+    joined _ _ _ _ _ c.in-Ok.bench c.in-Ok-into_mutator.m
+    (kept_is _ _ _ c.in-Some.ensures.opened.0 c.in-Ok.ensures.crew)
+    (kept_is _ _ _ c.in-Some-open.ensures.opened.0 c.in-Ok-into_mutator.ensures.mutator)
+    (inl (c.give-given.new.self, c.close-2.ensures, c.in-Some-open.ensures.empty, c.in-Ok-given.ensures.given, c.done.ensures))

@@ -1,7 +1,7 @@
-use Rattle.std.proofs.Common.{◌≡◌, ℕ, List, ap, subst, ◌∙◌}
+use Rattle.std.proofs.Common.{◌≡◌, ℕ, List, ap, sym, subst, ◌∙◌}
 use Rattle.std.specs.Result.{IfErr}
 use Rattle.heap_layout.specs.Heap.{Heap}
-use Rattle.comp_handle.specs.Making.{given, IsWhy}
+use Rattle.comp_handle.specs.Making.{given, AreFew, IsWhy}
 use Rattle.comp_handle.proofs.Whys.{err_more, why_answered}
 use Rattle.comp_handle.proofs.making.heap_of.Goals as goal
 
@@ -14,5 +14,6 @@ returns-clause-fault c =
     let same : given edition words marks roots ≡ given edition c.args.words.now c.args.marks.now c.args.roots.now =
     ap (λ (l : List ℕ). given edition l marks roots) c.in_ok-words.ensures ∙ ap (λ (l : List ℕ). given edition c.args.words.now l roots) c.in_ok-marks.ensures
     ∙ ap (λ (l : List ℕ). given edition c.args.words.now c.args.marks.now l) c.in_ok-roots.ensures in
+    let few = subst (λ (heap : Heap). AreFew heap.edition heap.words heap.marks heap.roots) (sym same) c.in_ok-check_sizes.ensures in
     subst (λ (heap : Heap). IfErr c.from_parts_of.result (IsWhy heap)) same
-    (err_more c.from_parts_of.result (λ fault h. why_answered edition (given edition words marks roots) fault h) c.from_parts_of.ensures.fault)
+    (err_more c.from_parts_of.result (λ fault h. why_answered edition (given edition words marks roots) fault few h) c.from_parts_of.ensures.fault)

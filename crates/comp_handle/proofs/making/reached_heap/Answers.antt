@@ -1,7 +1,6 @@
-use Rattle.std.proofs.Common.{ℕ, List, subst}
+use Rattle.std.proofs.Common.{ℕ, List, [], sym, subst}
 use Rattle.std.specs.Result.{IfErr}
-use Rattle.reachability.specs.Reachable.{AreReachable}
-use Rattle.comp_handle.specs.Making.{given, IsWhy}
+use Rattle.comp_handle.specs.Making.{AreFew, IsWhyReached}
 use Rattle.comp_handle.proofs.Whys.{err_more, why_refused}
 use Rattle.comp_handle.proofs.making.reached_heap.Goals as goal
 
@@ -11,6 +10,7 @@ returns-clause-fault c =
     let r = c.reachable_heap.result in
     let words = c.in_ok-words.words.items in
     let roots = c.in_ok-roots.roots.items in
-    let h = err_more r (λ fault refused. λ marks are. why_refused (given edition words marks roots) fault (refused marks are)) c.reachable_heap.ensures.refused in
-    subst (λ (ws : List ℕ). IfErr r (λ fault. (marks : List ℕ) → AreReachable edition ws c.args.roots.now marks → IsWhy (given edition ws marks c.args.roots.now) fault)) c.in_ok-words.ensures
-    (subst (λ (rs : List ℕ). IfErr r (λ fault. (marks : List ℕ) → AreReachable edition words rs marks → IsWhy (given edition words marks rs) fault)) c.in_ok-roots.ensures h)
+    let few = subst (λ (ws : List ℕ). AreFew edition ws [] roots) (sym c.in_ok-words.ensures) (subst (λ (rs : List ℕ). AreFew edition c.args.words.now [] rs) (sym c.in_ok-roots.ensures) c.in_ok-check_sizes.ensures) in
+    let h = err_more r (λ fault refused. why_refused edition words roots fault few refused) c.reachable_heap.ensures.refused in
+    subst (λ (ws : List ℕ). IfErr r (IsWhyReached edition ws c.args.roots.now)) c.in_ok-words.ensures
+    (subst (λ (rs : List ℕ). IfErr r (IsWhyReached edition words rs)) c.in_ok-roots.ensures h)

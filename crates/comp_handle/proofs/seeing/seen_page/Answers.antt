@@ -3,19 +3,19 @@ use Rattle.std.specs.declared.boxed.Box.{Box}
 use Rattle.std.specs.Global.{Global}
 use Rattle.comp_handle.specs.Seeing.{CopiesSeen}
 use Rattle.comp_handle.specs.declared.kept.Kept.{Kept}
-use Rattle.comp_handle.proofs.Called.{called, not_called}
+use Rattle.comp_handle.proofs.Called.{saw, not_seen}
 use Rattle.comp_handle.proofs.seeing.seen_page.Goals as goal
 use Rattle.comp_handle.proofs.seeing.seen_page.Goals.{in-Mutator, in_default-as_mut}
 
-pub returns-clause-copies : goal.returns-clause-copies
-returns-clause-copies c = elim c.match-as_mut.branch [
+pub returns : goal.returns
+returns c = elim c.match-as_mut.branch [
   | in-Mutator w ↦
-      called (CopiesSeen c.args.p c.args.out.now c.match-as_mut.out) _ _ _ w.in-Mutator.m w.copy_seen-answer.new.m w.copy_seen-answer.result
+      saw c.args.p c.args.out.now c.match-as_mut.out _ _ _ w.in-Mutator.m w.copy_seen-answer.new.m w.copy_seen-answer.result
       (c.in-Some.ensures.kept.0 ∙ ap (λ (k : Kept). Some k) (sym c.as_mut.ensures.value ∙ w.in-Mutator.is))
       (c.put_back.ensures ∙ ap (λ (b : Box Kept Global). Some b.value) w.kept-is) w.answer-is
       (subst (λ (o : List ℕ). CopiesSeen c.args.p c.args.out.now o w.in-Mutator.m w.copy_seen-answer.new.m w.copy_seen-answer.result) (sym w.out-is) w.copy_seen-answer.ensures.copies)
   | in_default-as_mut w ↦
-      not_called (CopiesSeen c.args.p c.args.out.now c.match-as_mut.out) _ _ _ c.as_mut.result.now w.in_default-as_mut.not-Mutator
+      not_seen c.args.p c.args.out.now c.match-as_mut.out _ _ _ c.as_mut.result.now w.in_default-as_mut.not-Mutator
       (c.in-Some.ensures.kept.0 ∙ ap (λ (k : Kept). Some k) (sym c.as_mut.ensures.value))
-      (c.put_back.ensures ∙ ap (λ (b : Box Kept Global). Some b.value) w.kept-is) (w.answer-is ∙ w.bare-answer.ensures)
+      (c.put_back.ensures ∙ ap (λ (b : Box Kept Global). Some b.value) w.kept-is) (w.answer-is ∙ w.bare-answer.ensures) w.out-is
 ]

@@ -1,26 +1,38 @@
-use Rattle.std.proofs.Common.{◌≡◌, inl, inr, refl, sym, ap, subst, ◌∙◌}
+use Rattle.std.proofs.Common.{Some, sym, ap, ◌∙◌}
 use Rattle.comp_crew.specs.Finishes.{live_of}
 use Rattle.comp_crew.specs.declared.bench.Bench.{Bench}
-use Rattle.comp_handle.specs.Answers.{bare, done}
-use Rattle.comp_handle.specs.Turning.{of_finish, Finishes}
+use Rattle.comp_handle.specs.Answers.{done}
+use Rattle.comp_handle.specs.Kinds.{crew_in}
+use Rattle.comp_handle.specs.Turning.{Finishes, IsUnfinished}
 use Rattle.comp_handle.specs.declared.kept.Kept.{Kept}
 use Rattle.comp_handle.specs.declared.kept.Kept.TheVariants as kept
+use Rattle.comp_handle.proofs.Turned.{answer_by, goes_by, kept_by, kept_full, kept_gone, kept_other, kept_stays}
 use Rattle.comp_handle.proofs.turning.finished.Goals as goal
-use Rattle.comp_handle.proofs.turning.finished.Goals.{in-OutOfMemory, in-MutatorMissing, in-StillShared}
 
-pub returns-in-Ok-clause-finishes : goal.returns-in-Ok-clause-finishes
-returns-in-Ok-clause-finishes c =
-    subst (λ (k : Kept). Finishes k (kept.Ended c.in-Ok.ended) c.done.result) (sym c.in-Crew.is)
-    (inl (c.in-Ok.ended, refl, c.in-Ok.ensures.finished, c.in-Ok.ensures.flipped, c.done.ensures ∙ ap done (c.live_words-live.ensures ∙ ap live_of c.finished.ensures)))
+pub returns-in-Err-clause-turns : goal.returns-in-Err-clause-turns
+returns-in-Err-clause-turns c =
+    let own = c.in-Err.ensures.other in
+    kept_other crew_in Finishes IsUnfinished _ _ _ _ _ own.1 (goes_by c.stays.ensures) (kept_by c.stays.ensures ∙ own.0) (answer_by c.stays.ensures ∙ c.bare.ensures)
 
-pub returns-after-left-clause-finishes : goal.returns-after-left-clause-finishes
-returns-after-left-clause-finishes c =
-    let fault = c.in-Err.left.fault in
-    let a = c.match-left.result in
-    let same = ap (λ (b : Bench). kept.Crew b) c.in-Err.ensures.back in
-    let end = λ (e : a ≡ of_finish fault). subst (λ (k : Kept). Finishes k (kept.Crew c.in-Err.left.bench) a) (sym c.in-Crew.is) (inr (fault, e, c.in-Err.ensures.fault, same)) in
-    elim c.match-left.branch [
-      | in-OutOfMemory w ↦ end (w.result-is ∙ w.bare-in-OutOfMemory.ensures ∙ ap of_finish (sym w.in-OutOfMemory.is))
-      | in-MutatorMissing w ↦ end (w.result-is ∙ w.bare-in-MutatorMissing.ensures ∙ ap (bare 15) w.from.ensures ∙ ap of_finish (sym w.in-MutatorMissing.is))
-      | in-StillShared w ↦ end (w.result-is ∙ w.bare-in-StillShared.ensures ∙ ap of_finish (sym w.in-StillShared.is))
-    ]
+pub returns-then-full-clause-turns : goal.returns-then-full-clause-turns
+returns-then-full-clause-turns c =
+    let is = c.in-Ok.ensures.crew in
+    let at = ap (λ (k : Kept). crew_in (Some k)) is in
+    kept_full crew_in Finishes IsUnfinished _ _ _ _ _ c.in-Ok.bench at c.if-full.true (goes_by c.stays-then-full.ensures) (kept_by c.stays-then-full.ensures ∙ sym is) (answer_by c.stays-then-full.ensures ∙ c.bare-then-full.ensures)
+
+pub returns-in-Ok-finish-clause-turns : goal.returns-in-Ok-finish-clause-turns
+returns-in-Ok-finish-clause-turns c =
+    let at = ap (λ (k : Kept). crew_in (Some k)) c.in-Ok.ensures.crew in
+    let h = c.in-Ok-finish.ensures in
+    let live = c.live_words-live.ensures ∙ ap live_of c.finished.ensures in
+    kept_gone crew_in Finishes IsUnfinished _ _ _ _ _ c.in-Ok.bench at c.if-full.false (goes_by c.gone.ensures)
+    (c.in-Ok-finish.ended, ap (λ (k : Kept). Some k) (kept_by c.gone.ensures), h.finished, h.flipped, answer_by c.gone.ensures ∙ ap done live)
+
+pub returns-in-Err-finish-clause-turns : goal.returns-in-Err-finish-clause-turns
+returns-in-Err-finish-clause-turns c =
+    let is = c.in-Ok.ensures.crew in
+    let at = ap (λ (k : Kept). crew_in (Some k)) is in
+    let h = c.in-Err-finish.ensures in
+    let t = c.stays-in-Err-finish.ensures in
+    kept_stays crew_in Finishes IsUnfinished _ _ _ _ _ c.in-Ok.bench at c.if-full.false (goes_by t) (kept_by t ∙ ap (λ (bench : Bench). kept.Crew bench) h.back ∙ sym is)
+    (c.in-Err-finish.left.fault, answer_by t ∙ c.unfinished.ensures, h.fault)

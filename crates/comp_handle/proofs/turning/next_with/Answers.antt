@@ -1,25 +1,39 @@
-use Rattle.std.proofs.Common.{ℕ, List, inl, inr, ap, subst}
+use Rattle.std.proofs.Common.{ℕ, List, Some, ap, subst, ◌∙◌}
+use Rattle.heap_layout.specs.Faults.{IsAccepted}
 use Rattle.heap_layout.specs.Heap.{Heap}
 use Rattle.comp_crew.specs.declared.finishing.Ended.{Ended as End}
-use Rattle.comp_handle.specs.Turning.{NextOf}
+use Rattle.comp_handle.specs.Turning.{Follows, IsNext, IsUnfollowed}
+use Rattle.comp_handle.specs.declared.kept.Kept.{Kept}
 use Rattle.comp_handle.specs.declared.kept.Kept.TheVariants as kept
 use Rattle.comp_handle.proofs.Refusing.{too_large, unmarked}
+use Rattle.comp_handle.proofs.Turned.{answer_by, kept_by}
 use Rattle.comp_handle.proofs.turning.next_with.Goals as goal
 
-pub returns-in-Err-clause-next : goal.returns-in-Err-clause-next
-returns-in-Err-clause-next c = too_large c.args.ended c.args.marks.now c.in-Err.fault c.unaccepted.result c.requires c.in-Err.ensures c.unaccepted.ensures
+pub returns-in-Err-clause-refused : goal.returns-in-Err-clause-refused
+returns-in-Err-clause-refused c = λ stays.
+    (kept_by c.stays.ensures, too_large c.args.ended c.args.roots.now c.args.marks.now c.in-Err.fault c.stays.result.answer c.requires c.in-Err.ensures (answer_by c.stays.ensures ∙ c.unaccepted.ensures))
 
-pub returns-in_default-copied_marks-clause-next : goal.returns-in_default-copied_marks-clause-next
-returns-in_default-copied_marks-clause-next c = unmarked c.args.ended c.args.marks.now c.unaccepted-in_default-copied_marks.result c.in_default.ensures c.unaccepted-in_default-copied_marks.ensures
+pub returns-in_default-copied_marks-clause-refused : goal.returns-in_default-copied_marks-clause-refused
+returns-in_default-copied_marks-clause-refused c = λ stays.
+    let t = c.stays-in_default-copied_marks in
+    (kept_by t.ensures, unmarked c.args.ended c.args.roots.now c.args.marks.now t.result.answer c.in_default.ensures (answer_by t.ensures ∙ c.unaccepted-answer.ensures))
 
 pub returns-in-Ok-next_heap-clause-next : goal.returns-in-Ok-next_heap-clause-next
-returns-in-Ok-next_heap-clause-next c =
-    subst (λ (l : List ℕ). NextOf l c.args.ended (kept.Heap c.in-Ok-next_heap.heap) c.done.result) c.in-Ok.ensures
-    (inl (ap (λ (heap : Heap). kept.Heap heap) c.in-Ok-next_heap.ensures.next, c.done.ensures, c.in-Ok-next_heap.ensures.cycle))
+returns-in-Ok-next_heap-clause-next c = λ goes.
+    let h = c.in-Ok-next_heap.ensures in
+    let next : IsNext c.args.roots.now c.in-Ok.marks.items c.args.ended (Some c.gone.result.kept) = record {
+      next = ap (λ (k : Kept). Some k) (kept_by c.gone.ensures ∙ ap (λ (heap : Heap). kept.Heap heap) h.next);
+      accepted = subst (λ (heap : Heap). IsAccepted heap) h.next h.accepted;
+      cycle = h.cycle;
+      chapter = h.chapter;
+    } in
+    subst (λ (l : List ℕ). Follows c.args.roots.now l c.args.ended (Some c.gone.result.kept) c.gone.result.answer) c.in-Ok.ensures (next, answer_by c.gone.ensures)
 
-pub returns-in-Err-next_heap-clause-next : goal.returns-in-Err-next_heap-clause-next
-returns-in-Err-next_heap-clause-next c =
+pub returns-in-Err-next_heap-clause-refused : goal.returns-in-Err-next_heap-clause-refused
+returns-in-Err-next_heap-clause-refused c = λ stays.
     let left = c.in-Err-next_heap.left in
     let h = c.in-Err-next_heap.ensures in
-    subst (λ (l : List ℕ). NextOf l c.args.ended (kept.Ended left.ended) c.unaccepted-in-Err-next_heap.result) c.in-Ok.ensures
-    (inr (ap (λ (e : End). kept.Ended e) h.back, (left.fault, c.unaccepted-in-Err-next_heap.ensures, h.refused, h.memory)))
+    let t = c.stays-in-Err-next_heap in (
+      kept_by t.ensures ∙ ap (λ (e : End). kept.Ended e) h.back,
+      subst (λ (l : List ℕ). IsUnfollowed c.args.roots.now l c.args.ended t.result.answer) c.in-Ok.ensures (left.fault, answer_by t.ensures ∙ c.unaccepted-in-Err-next_heap.ensures, h.refused, h.memory),
+    )

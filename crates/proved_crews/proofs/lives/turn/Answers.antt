@@ -17,4 +17,4 @@ returns c = λ done heap keeps.
     let crew = flipped.2.0 in
     let mixed = c.mix_up.ensures.first c.if-not-mix_up.false crew flipped.2.1 in
     let finished = c.finish-2.ensures c.if-not-finish-2.false crew mixed in
-    c.follow.ensures done heap (subst (λ (h : Heap). KeepsEnd h c.finish-2.new.crew.kept) (flipped.2.3 ∙ same) finished)
+    c.follow.ensures done heap (subst (λ (h : Heap). KeepsEnd h c.finish-2.new.end.kept) (flipped.2.3 ∙ same) finished)

@@ -1,0 +1,12 @@
+use Rattle.comp_handle.specs.Kinds.{heap_in}
+use Rattle.comp_handle.specs.Turning.{Plans, IsUnplanned}
+use Rattle.comp_handle.proofs.Turned.{empty_of, turned}
+use Rattle.comp_handle.proofs.turning.plan_heap.Goals as goal
+
+pub settle-requires-clause-free : goal.settle-requires-clause-free
+settle-requires-clause-free c = λ goes. empty_of _ _ _ c.is_full-full.ensures.full c.is_full-full.ensures.same (c.planned-turned.ensures.free goes)
+
+pub returns : goal.returns
+returns c =
+    let turn = c.planned-turned in
+    turned heap_in Plans IsUnplanned _ _ _ _ _ _ _ _ _ _ _ c.in-Some.ensures.opened.0 c.is_full-full.ensures.full c.is_full-full.ensures.same turn.ensures.turns c.settle.ensures.settles c.settle.ensures.answer

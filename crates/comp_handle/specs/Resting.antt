@@ -1,0 +1,127 @@
+-- A heap at rest, in memory of the caller: collections, surveys, and what is done by a survey.
+use Rattle.std.specs.Prelude.{◌≡◌, ◌≢◌, ℕ, ◌<◌, ◌⊎◌, Bool, true, false, IsFalse, IsTrue, List, All, drop, length, map, slice_index, take, Option, None, Some}
+use Rattle.heap_layout.specs.Heap.{is_value, IsValue}
+use Rattle.heap_layout.specs.Versions.{version_of}
+use Rattle.heap_layout.specs.declared.edition.Edition.{Edition}
+use Rattle.mark_job.specs.Asked.{Asked, IsMarkedOf}
+use Rattle.stopped_heap.specs.Collecting.{HasCollected, RefusesCollection}
+use Rattle.stopped_heap.specs.Marks.{IsMarksFaultOf}
+use Rattle.stopped_heap.specs.Places.{led_by, words_now, Found, IsAsFound, IsFoundOf, IsSlideFault}
+use Rattle.stopped_heap.specs.Reached.{IsFaultOf}
+use Rattle.stopped_heap.specs.Surveys.{marks_of}
+use Rattle.stopped_heap.specs.declared.fault.CollectFault.{CollectFault}
+use Rattle.stopped_heap.specs.declared.fault.MarksFault.{MarksFault}
+use Rattle.stopped_heap.specs.declared.fault.SlideFault.{SlideFault}
+use Rattle.stopped_heap.specs.declared.fault.SlideFault.TheVariants as slide
+use Rattle.stopped_heap.specs.declared.fault.SurveyFault.{SurveyFault}
+use Rattle.comp_handle.specs.Answers.{bare, done, of_collect, of_marks, of_slide, of_survey}
+use Rattle.comp_handle.specs.Kinds.{survey_in, Asks, Fills}
+use Rattle.comp_handle.specs.Making.{ByEdition}
+use Rattle.comp_handle.specs.declared.answer.Answer.{Answer}
+use Rattle.comp_handle.specs.declared.kept.Kept.{Kept}
+use Rattle.comp_handle.specs.declared.resting.SurveyFacts.{SurveyFacts}
+
+-- the heap of these words and roots
+abbrev pub asked : Edition → List ℕ → List ℕ → Asked
+asked edition words roots = record { edition = edition; words = words; roots = roots }
+
+-- what is done for the edition of number n; or there is no such edition, and R
+abbrev pub OfEdition : ℕ → (Edition → Type 0) → Type 0 → Answer → Type 0
+OfEdition n Done R a =
+    ((edition : Edition) × (version_of edition ≡ n) × Done edition)
+    ⊎ (((edition : Edition) → version_of edition ≢ n) × R × (a ≡ bare 19 n))
+
+-- The heap was collected into a memory, and the answer has its live words; or roots and memory are as they were, and the
+-- answer says why.
+abbrev pub CollectsIn : Edition → List ℕ → List ℕ → List ℕ → List ℕ → List ℕ → Answer → Type 0
+CollectsIn edition words roots new_roots before after a =
+    ((live : ℕ) × (a ≡ done live) × HasCollected edition words roots live new_roots before after)
+    ⊎ ((new_roots ≡ roots) × (after ≡ before) × ((fault : CollectFault) × (a ≡ of_collect fault) × RefusesCollection edition words roots (length before) fault))
+
+-- a heap of edition n, or there is no such edition
+abbrev pub Collects : ℕ → List ℕ → List ℕ → List ℕ → List ℕ → List ℕ → Answer → Type 0
+Collects n words roots new_roots before after a =
+    OfEdition n (λ edition. CollectsIn edition words roots new_roots before after a) ((new_roots ≡ roots) × (after ≡ before)) a
+
+-- The heap was collected within its words, and the answer has its live words; or words and roots are as they were, and
+-- the answer says why.
+abbrev pub CollectsWithin : Edition → List ℕ → List ℕ → List ℕ → List ℕ → Answer → Type 0
+CollectsWithin edition before after roots new_roots a =
+    ((live : ℕ) × (a ≡ done live) × HasCollected edition before roots live new_roots before after)
+    ⊎ ((new_roots ≡ roots) × (after ≡ before) × ((fault : SurveyFault) × (a ≡ of_survey fault) × IsFaultOf edition before roots fault))
+
+-- a heap of edition n, or there is no such edition
+abbrev pub CollectsInPlace : ℕ → List ℕ → List ℕ → List ℕ → List ℕ → Answer → Type 0
+CollectsInPlace n before after roots new_roots a =
+    OfEdition n (λ edition. CollectsWithin edition before after roots new_roots a) ((new_roots ≡ roots) × (after ≡ before)) a
+
+-- The handle keeps what the roots of the heap reach, and where it slides; the answer has the number of live words. Or it
+-- keeps nothing, and the answer says why.
+abbrev pub Surveys : Asked → Option Kept → Answer → Type 0
+Surveys heap now a =
+    ((found : Found) × (survey_in now ≡ Some found) × IsMarkedOf heap found × (a ≡ done (length found.indices)))
+    ⊎ ((now ≡ None) × ((fault : SurveyFault) × (a ≡ of_survey fault) × IsFaultOf heap.edition heap.words heap.roots fault))
+
+-- a survey of a heap of edition n by its roots
+abbrev pub SurveysByRoots : ℕ → List ℕ → List ℕ → Option Kept → Option Kept → Answer → Type 0
+SurveysByRoots n words roots old new a =
+    Fills 0 (λ now b. ByEdition n (λ edition. Surveys (asked edition words roots) now b) now b) (Unit {0}) old new a
+
+-- this was found of the heap whose marked objects are those at the set bits
+pub record IsTakenOf (heap : Asked) (bits : List ℕ) (found : Found) : Type 0 where
+  pub marks : found.marks ≡ marks_of bits
+  pub places : IsFoundOf found (record { edition = heap.edition; words = heap.words; marks = found.marks; roots = heap.roots })
+
+-- The handle keeps what is marked, and where it slides; the answer has the number of live words. Or it keeps nothing,
+-- and the answer says why.
+abbrev pub TakesMarks : Asked → List ℕ → Option Kept → Answer → Type 0
+TakesMarks heap bits now a =
+    ((found : Found) × (survey_in now ≡ Some found) × IsTakenOf heap bits found × (a ≡ done (length found.indices)))
+    ⊎ ((now ≡ None) × ((fault : MarksFault) × (a ≡ of_marks fault) × IsMarksFaultOf heap.edition heap.words heap.roots bits fault))
+
+-- a survey of a heap of edition n by marks of the caller's own
+abbrev pub SurveysByMarks : ℕ → List ℕ → List ℕ → List ℕ → Option Kept → Option Kept → Answer → Type 0
+SurveysByMarks n words roots bits old new a =
+    Fills 0 (λ now b. ByEdition n (λ edition. TakesMarks (asked edition words roots) bits now b) now b) (Unit {0}) old new a
+
+-- the counts of a survey
+abbrev pub survey_facts_of : Found → SurveyFacts
+survey_facts_of found = record { live_words = length found.indices }
+
+abbrev pub CountsSurvey : SurveyFacts → Found → Answer → Type 0
+CountsSurvey out found a = (out ≡ survey_facts_of found) × (a ≡ done 0)
+
+-- the second handle, which was empty, keeps the same as the first one then, or there is no memory
+abbrev pub Shares : {X : Type 0} → (Option Kept → Option X) → Option Kept → Option Kept → Option Kept → Answer → Type 0
+Shares find from to new a =
+    Asks 0 find (λ x b. Fills 1 (λ now c. ((find now ≡ Some x) × (c ≡ done 0)) ⊎ ((now ≡ None) × (c ≡ bare 9 0))) (Unit {0}) to new b) (new ≡ to) from a
+
+-- why there is no share for the second handle
+abbrev pub IsUnsharedIn : {X : Type 0} → (Option Kept → Option X) → Bool → Option Kept → Answer → Type 0
+IsUnsharedIn find full from a =
+    Asks 0 find (λ x b. (IsTrue full × (b ≡ bare 11 1)) ⊎ (IsFalse full × (b ≡ bare 9 0))) (Unit {0}) from a
+
+-- The part was filled with the words that stand there after the collection, as their objects are in these words now; or
+-- the answer says why not.
+abbrev pub Slides : List ℕ → ℕ → List ℕ → List ℕ → Found → Answer → Type 0
+Slides words first before after found a =
+    ((a ≡ done 0) × (after ≡ take (length before) (drop first (words_now found words))) × IsAsFound found words first (length before))
+    ⊎ ((fault : SlideFault) × (a ≡ of_slide fault) × IsSlideFault found words first (length before) fault
+    × (fault ≡ slide.NoSuchPart → after ≡ before) × (fault ≡ slide.OtherCount → after ≡ before))
+
+-- Root k is the first one that is neither null nor the address of a live object, nor an immediate.
+pub record IsFirstStray (found : Found) (roots : List ℕ) (k : ℕ) : Type 0 where
+  pub inside : k < length roots
+  pub stray : is_value found.edition found.marks (slice_index roots k) ≡ false
+  pub first : (j : ℕ) → j < k → is_value found.edition found.marks (slice_index roots j) ≡ true
+
+-- The roots lead to where their objects are after the collection; or they are as they were, and the answer has the first
+-- one that leads to no live object.
+abbrev pub ForwardsRoots : List ℕ → List ℕ → Found → Answer → Type 0
+ForwardsRoots before after found a =
+    ((a ≡ done 0) × All (IsValue found.edition found.marks) before × (after ≡ map (led_by found) before))
+    ⊎ ((after ≡ before) × ((k : ℕ) × (a ≡ bare 38 k) × IsFirstStray found before k))
+
+-- the weak words lead to where their objects are after the collection, or nowhere
+abbrev pub ForwardsWeak : List ℕ → List ℕ → Found → Answer → Type 0
+ForwardsWeak before after found a = (a ≡ done 0) × (after ≡ map (led_by found) before)

@@ -1,0 +1,149 @@
+//! What is kept, by its kind: taken out, or looked at.
+ghost use Rattle.std.specs.Prelude.{◌≡◌, None, Some, IfErr, IfOk, MatchOption};
+ghost use Rattle.comp_handle.specs.Kinds.{crew_in, end_in, heap_in, job_in, mutator_in, plan_in, survey_in, tables_in};
+ghost use Rattle.comp_handle.specs.declared.kept.Kept.TheVariants as kinds;
+
+use crate::kept::Kept;
+use comp_crew::{Bench, Ended, Member};
+use heap_layout::MarkedHeap;
+use mark_job::Job;
+use page_plan::Plan;
+use std::sync::Arc;
+use stopped_heap::{Places, Tables};
+
+/// The heap that is kept. Err with what is kept if it is none.
+pub(crate) fn into_heap(kept: Kept) -> Result<MarkedHeap, Kept>
+    ensures heap { IfOk result (λ heap. kept ≡ kinds.Heap heap) }
+    ensures other { IfErr result (λ left. (left ≡ kept) × (heap_in (Some kept) ≡ None)) }
+{
+    match kept {
+        Kept::Heap(heap) => Ok(heap),
+        other => Err(other),
+    }
+}
+
+/// The crew that is kept. Err with what is kept if it is none.
+pub(crate) fn into_crew(kept: Kept) -> Result<Bench, Kept>
+    ensures crew { IfOk result (λ bench. kept ≡ kinds.Crew bench) }
+    ensures other { IfErr result (λ left. (left ≡ kept) × (crew_in (Some kept) ≡ None)) }
+{
+    match kept {
+        Kept::Crew(bench) => Ok(bench),
+        other => Err(other),
+    }
+}
+
+/// The mutator that is kept. Err with what is kept if it is none.
+pub(crate) fn into_mutator(kept: Kept) -> Result<Member, Kept>
+    ensures mutator { IfOk result (λ m. kept ≡ kinds.Mutator m) }
+    ensures other { IfErr result (λ left. (left ≡ kept) × (mutator_in (Some kept) ≡ None)) }
+{
+    match kept {
+        Kept::Mutator(m) => Ok(m),
+        other => Err(other),
+    }
+}
+
+/// The finished cycle that is kept. Err with what is kept if it is none.
+pub(crate) fn into_end(kept: Kept) -> Result<Ended, Kept>
+    ensures end { IfOk result (λ e. kept ≡ kinds.Ended e) }
+    ensures other { IfErr result (λ left. (left ≡ kept) × (end_in (Some kept) ≡ None)) }
+{
+    match kept {
+        Kept::Ended(e) => Ok(e),
+        other => Err(other),
+    }
+}
+
+/// The survey that is kept. Err with what is kept if it is none.
+pub(crate) fn into_survey(kept: Kept) -> Result<Arc<Places>, Kept>
+    ensures survey { IfOk result (λ survey. kept ≡ kinds.Survey survey) }
+    ensures other { IfErr result (λ left. (left ≡ kept) × (survey_in (Some kept) ≡ None)) }
+{
+    match kept {
+        Kept::Survey(survey) => Ok(survey),
+        other => Err(other),
+    }
+}
+
+/// The tables that are kept. Err with what is kept if they are none.
+pub(crate) fn into_tables(kept: Kept) -> Result<Tables, Kept>
+    ensures tables { IfOk result (λ tables. kept ≡ kinds.Tables tables) }
+    ensures other { IfErr result (λ left. (left ≡ kept) × (tables_in (Some kept) ≡ None)) }
+{
+    match kept {
+        Kept::Tables(tables) => Ok(tables),
+        other => Err(other),
+    }
+}
+
+/// The job that is kept. Err with what is kept if it is none.
+pub(crate) fn into_job(kept: Kept) -> Result<Arc<Job>, Kept>
+    ensures job { IfOk result (λ job. kept ≡ kinds.Job job) }
+    ensures other { IfErr result (λ left. (left ≡ kept) × (job_in (Some kept) ≡ None)) }
+{
+    match kept {
+        Kept::Job(job) => Ok(job),
+        other => Err(other),
+    }
+}
+
+/// The heap that is kept. None if it is none.
+pub(crate) fn as_heap(kept: &Kept) -> Option<&MarkedHeap>
+    ensures { MatchOption result (heap_in (Some kept.now) ≡ None) (λ heap. kept.now ≡ kinds.Heap heap.now) }
+{
+    match kept {
+        Kept::Heap(heap) => Some(heap),
+        _ => None,
+    }
+}
+
+/// The plan that is kept. None if it is none.
+pub(crate) fn as_plan(kept: &Kept) -> Option<&Arc<Plan>>
+    ensures { MatchOption result (plan_in (Some kept.now) ≡ None) (λ plan. kept.now ≡ kinds.Plan plan.now) }
+{
+    match kept {
+        Kept::Plan(plan) => Some(plan),
+        _ => None,
+    }
+}
+
+/// The mutator that is kept. None if it is none.
+pub(crate) fn as_mutator(kept: &Kept) -> Option<&Member>
+    ensures { MatchOption result (mutator_in (Some kept.now) ≡ None) (λ m. kept.now ≡ kinds.Mutator m.now) }
+{
+    match kept {
+        Kept::Mutator(m) => Some(m),
+        _ => None,
+    }
+}
+
+/// The finished cycle that is kept. None if it is none.
+pub(crate) fn as_end(kept: &Kept) -> Option<&Ended>
+    ensures { MatchOption result (end_in (Some kept.now) ≡ None) (λ e. kept.now ≡ kinds.Ended e.now) }
+{
+    match kept {
+        Kept::Ended(e) => Some(e),
+        _ => None,
+    }
+}
+
+/// The survey that is kept. None if it is none.
+pub(crate) fn as_survey(kept: &Kept) -> Option<&Arc<Places>>
+    ensures { MatchOption result (survey_in (Some kept.now) ≡ None) (λ survey. kept.now ≡ kinds.Survey survey.now) }
+{
+    match kept {
+        Kept::Survey(survey) => Some(survey),
+        _ => None,
+    }
+}
+
+/// The job that is kept. None if it is none.
+pub(crate) fn as_job(kept: &Kept) -> Option<&Arc<Job>>
+    ensures { MatchOption result (job_in (Some kept.now) ≡ None) (λ job. kept.now ≡ kinds.Job job.now) }
+{
+    match kept {
+        Kept::Job(job) => Some(job),
+        _ => None,
+    }
+}
