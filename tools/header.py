@@ -1,14 +1,19 @@
-"""Compares the declarations of compressor.h with the exports of compressor_c: the same names, parameters and results.
+"""Compares compressor.h with the exports of compressor_c, and with what comp_handle answers: the same names, parameters
+(each handle of its kind) and results; structs with the same fields; the same statuses, kinds, limits and version.
 
-usage: header.py HEADER EXPORTS..
+usage: header.py CRATES
 """
 import re
 import sys
 from pathlib import Path
 
 TYPES = {
-    "&mut Handle": ["comp_handle *"],
-    "&mut Written": ["comp_entry *"],
+    "&mut Written": ["compressor_entry *"],
+    "&mut MutatorFacts": ["compressor_mutator_facts *"],
+    "&mut EndFacts": ["compressor_end_facts *"],
+    "&mut HeapFacts": ["compressor_heap_facts *"],
+    "&mut PlanFacts": ["compressor_plan_facts *"],
+    "&mut SurveyFacts": ["compressor_survey_facts *"],
     "&mut [u64; 64]": ["uint64_t *"],
     "&mut [u64]": ["uint64_t *", "size_t"],
     "&[u64]": ["const uint64_t *", "size_t"],
@@ -18,40 +23,179 @@ TYPES = {
     "u32": ["uint32_t"],
     "u64": ["uint64_t"],
 }
-RESULTS = {"Answer": "comp_answer", None: "void"}
+RESULTS = {"Answer": "compressor_answer", "u32": "uint32_t", None: "void"}
+STRUCTS = {
+    "Answer": "compressor_answer",
+    "Written": "compressor_entry",
+    "MutatorFacts": "compressor_mutator_facts",
+    "EndFacts": "compressor_end_facts",
+    "HeapFacts": "compressor_heap_facts",
+    "PlanFacts": "compressor_plan_facts",
+    "SurveyFacts": "compressor_survey_facts",
+}
+# These variants have another name in C. No call of C is answered NotInEdition.
+VARIANTS = {
+    "Refusal::Null": "NULL_OBJECT",
+    "Refusal::NotInEdition": None,
+    "LayoutFault::Truncated": "IMAGE_TRUNCATED",
+    "LayoutFault::TrailingBytes": "IMAGE_TRAILING",
+    "LayoutFault::BadMagic": "IMAGE_BAD_MAGIC",
+    "LayoutFault::Device": "OUT_OF_MEMORY",
+    "DumpFault::Truncated": "FILE_TRUNCATED",
+    "DumpFault::TrailingBytes": "FILE_TRAILING",
+    "DumpFault::BadMagic": "FILE_BAD_MAGIC",
+    "DumpFault::BadField": "FILE_BAD_FIELD",
+    "DumpFault::Device": "OUT_OF_MEMORY",
+    "CollectFault::NoRoom": "TOO_SHORT",
+    "MovedFault::WrongHead": "MOVED_WRONG_HEAD",
+    "MovedFault::PlaceOutside": "MOVED_PLACE_OUTSIDE",
+    "MovedFault::Overlap": "MOVED_OVERLAP",
+    "MovedFault::WrongRoot": "MOVED_WRONG_ROOT",
+    "MovedFault::WrongWord": "MOVED_WRONG_WORD",
+}
+# The constants of heap_layout by their names in C.
+LIMITS = {
+    "FROM_SPACE": "FROM_SPACE",
+    "TO_SPACE": "TO_SPACE",
+    "IMMEDIATE": "FIRST_IMMEDIATE",
+    "PAGE_WORDS": "PAGE_WORDS",
+    "MAX_NEW_WORDS": "MAX_FRESH_OBJECT_WORDS",
+    "MAX_ENTRIES": "MAX_ENTRIES",
+    "MAX_MUTATORS": "MAX_MUTATORS",
+}
+# What an inline function answers for editions one and two, and for the later ones.
+BY_EDITION = {
+    "max_words": ("MAX_WORDS", "MAX_LARGE_WORDS"),
+    "max_object_words": ("MAX_OBJECT_WORDS", "MAX_LARGE_WORDS"),
+    "max_roots": ("MAX_ROOTS", "MAX_LARGE_ROOTS"),
+}
+
+
+def bare(text):
+    """C without comments."""
+    return re.sub(r"/\*.*?\*/", "", text, flags=re.S)
 
 
 def exported(text):
     """The exports by their names, as C declares them: the result and the parameters' types."""
     found = {}
     for name, given, result in re.findall(r'pub extern "C" fn (\w+)\(([^)]*)\)(?: -> (\w+))?', text):
-        kinds = [it.split(":", 1)[1].strip() for it in given.split(",\n" if "\n" in given else ", ") if it.strip()]
-        kinds = [it.rstrip(",") for it in kinds if it.rstrip(",") != "Global"]
-        found[name] = [RESULTS[result or None], *(kind for it in kinds for kind in TYPES[it])]
+        kinds = []
+        for it in given.split(",\n" if "\n" in given else ", "):
+            if it.strip():
+                own, kind = it.strip().rstrip(",").split(": ", 1)
+                if kind == "&mut Handle":
+                    # It has the name of its kind; the other one of a call has the kind of what the call acts on.
+                    kinds.append(f"compressor_{name.split('_')[1] if own == 'other' else own} *")
+                elif kind != "Global":
+                    kinds += TYPES[kind]
+        found[name] = [RESULTS[result or None], *kinds]
     return found
 
 
 def declared(text):
     """The declarations by their names, in the same form."""
     found = {}
-    text = re.sub(r"/\*.*?\*/", "", text, flags=re.S)
-    for result, name, given in re.findall(r"^(comp_answer|void) (\w+)\(([^)]*)\);", text, flags=re.M):
+    for result, name, given in re.findall(r"^(compressor_answer|uint32_t|void) (\w+)\(([^)]*)\);", text, flags=re.M):
         kinds = []
         for it in re.split(r",\s*", " ".join(given.split())):
-            kind, last = re.fullmatch(r"(.*?[ *])\w+(\[64\])?", it).groups()
-            kinds.append(f"{kind.strip()} *" if last else kind.strip())
+            if it != "void":
+                kind, last = re.fullmatch(r"(.*?[ *])\w+(\[64\])?", it).groups()
+                kinds.append(f"{kind.strip()} *" if last else kind.strip())
         found[name] = [result, *kinds]
     return found
 
 
+def fields_in_c(text):
+    """The fields of the structs, by the structs' names."""
+    found = {}
+    for name, body in re.findall(r"typedef struct (\w+) \{(.*?)\} \1;", text, flags=re.S):
+        found[name] = re.findall(r"(\w+) (\w+(?:\[\d+\])?);", body)
+    return found
+
+
+def fields_in_rattle(text):
+    """The same of structs that C sees."""
+    found = {}
+    for name, body in re.findall(r"#\[repr\(C\)\]\n#\[derive[^\n]*\npub struct (\w+) \{(.*?)\n\}", text, flags=re.S):
+        found[name] = [(f"uint{kind[1:]}_t", own) for own, kind in re.findall(r"pub (\w+): (u\d+),", body)]
+    return found
+
+
+def name_of(variant):
+    """The name of a variant in C."""
+    own = variant.split("::")[1]
+    return VARIANTS.get(variant, re.sub(r"(?<!^)([A-Z])", r"_\1", own).upper())
+
+
+def number(text):
+    """The number that a constant of C or of Rattle says."""
+    text = re.sub(r"UINT64_C\((\w+)\)", r"\1", text.replace("_", "") if "UINT" not in text else text)
+    return eval(re.sub(r"(?<=\d)(?:u64|u32|usize|u)\b", "", text), {"__builtins__": {}})
+
+
+def compare(crates):
+    """What differs."""
+    raw = (crates / "compressor_c/include/compressor.h").read_text()
+    text = bare(raw)
+    exports = "".join(it.read_text() for it in sorted((crates / "compressor_c/src").glob("*.rt")))
+    answers = "".join(it.read_text() for it in sorted((crates / "comp_handle/src").glob("*.rt")))
+    header, given = declared(text), exported(exports)
+    for name in sorted({*header, *given}):
+        if header.get(name) != given.get(name):
+            yield f"{name}: the header has {header.get(name)}, the exports have {given.get(name)}"
+    in_c, in_rattle = fields_in_c(text), fields_in_rattle(answers)
+    for own, name in STRUCTS.items():
+        have = [it for it in in_c.get(name, []) if not re.fullmatch(r"unused\[\d+\]", it[1])]
+        if have != in_rattle.get(own):
+            yield f"{name}: the header has {have}, {own} has {in_rattle.get(own)}"
+    enum = re.search(r"typedef enum compressor_status \{(.*?)\}", text, flags=re.S).group(1)
+    statuses = {name: int(n) for name, n in re.findall(r"COMPRESSOR_(\w+) = (\d+)", enum)}
+    numbers = {int(n) for n in re.findall(r"Answer::(?:bare|two)\((\d+),|Answer::place\([^;]*?(\d+)\)", answers) for n in n if n}
+    lacking = {number for number in numbers if number not in statuses.values()} - {5}
+    unused = {name for name, n in statuses.items() if n not in numbers and n}
+    if lacking or unused:
+        yield f"statuses without a name: {sorted(lacking)}; names that are no answer: {sorted(unused)}"
+    for variant, n in re.findall(r"(\w+Fault::\w+|Refusal::\w+)(?:\([^)]*\))? => Answer::(?:bare|two)\((\d+)", answers):
+        name = name_of(variant)
+        if name and statuses.get(name) != int(n):
+            yield f"{variant} is answered {n}, and {name} is {statuses.get(name)}"
+    texts = re.findall(r"COMPRESSOR_CASE_\((\w+)\)(?! case)", text)
+    if texts != list(statuses):
+        yield f"texts of statuses: {sorted({*texts} ^ {*statuses})}, or their order"
+    kinds = dict(re.findall(r"COMPRESSOR_KIND_(\w+) = (\d)", text))
+    helps = dict(re.findall(r"COMPRESSOR_HELP_(\w+) = (\d)", text))
+    told = {name.upper(): n for name, n in re.findall(r"Help::(\w+) => Answer::done\((\d)", answers)}
+    if helps != told:
+        yield f"what a helper did: the header has {helps}, a job answers {told}"
+    own = {name.upper().replace("REFERENCE", "REF"): n for name, n in re.findall(r"Kind::(\w+) => (\d)", answers)}
+    if kinds != own:
+        yield f"kinds: the header has {kinds}, kind_number has {own}"
+    limits = (crates / "heap_layout/src/limits.rt").read_text()
+    for name, own in LIMITS.items():
+        have = number(re.search(rf"#define COMPRESSOR_{name} (.*)", text).group(1))
+        want = number(re.search(rf"pub const {own}: \w+ = (.*);", limits).group(1))
+        if have != want:
+            yield f"{name}: the header has {have}, heap_layout has {want}"
+    for name, owns in BY_EDITION.items():
+        said = re.search(rf"compressor_{name}\(uint32_t edition\) \{{\s*return edition < 3 \? (.*?) : (.*?);", text)
+        for have, own in zip(said.groups(), owns):
+            want = number(re.search(rf"pub const {own}: \w+ = (.*);", limits).group(1))
+            if number(have) != want:
+                yield f"compressor_{name}: the header has {have}, {own} is {want}"
+    parts = [int(re.search(rf"#define COMPRESSOR_VERSION_{it} (\d+)", text).group(1)) for it in ("MAJOR", "MINOR", "PATCH")]
+    version = int(re.search(r"fn compressor_version\(\).*?\n\{\n    (\w+)\n", exports, flags=re.S).group(1).replace("_", ""))
+    said = re.search(r'COMPRESSOR_VERSION_TEXT "([\d.]*)', text).group(1)
+    if version != parts[0] * 1000000 + parts[1] * 1000 + parts[2] or said != ".".join(map(str, parts)):
+        yield f"version: the macros have {parts}, the text {said}, the export {version}"
+
+
 def main():
-    header = declared(Path(sys.argv[1]).read_text())
-    exports = exported("".join(Path(path).read_text() for path in sys.argv[2:]))
-    wrong = [name for name in sorted({*header, *exports}) if header.get(name) != exports.get(name)]
-    for name in wrong:
-        print(f"{name}: the header has {header.get(name)}, the exports have {exports.get(name)}")
-    print(f"{len(exports)} exports, {len(wrong)} of them declared otherwise")
-    sys.exit(1 if wrong or not exports else 0)
+    wrong = list(compare(Path(sys.argv[1])))
+    for it in wrong:
+        print(it)
+    print(f"compressor.h: {len(wrong)} differences from the exports")
+    sys.exit(1 if wrong else 0)
 
 
 main()

@@ -12,8 +12,14 @@ from pathlib import Path
 
 COMMENT = re.compile(r"/\*.*?\*/", re.S)
 FUNCTION = re.compile(r"^(?!static\b|typedef\b)[A-Za-z_][\w ]*?[ *]+(\w+)\s*\([^;{}()]*\);", re.M)
-# What is there for compilers alone: the guard, includes, and what C++ wants.
-ALONE = re.compile(r"^#(?:ifndef \w+_H\n#define \w+_H|include .*|ifdef __cplusplus\n(?:.*\n)*?#endif|endif)\n", re.M)
+# What is there for compilers alone: the guard, includes, what C++ wants, tests of the platform and of sizes.
+ALONE = re.compile(
+    r"^(?:#(?:ifndef \w+_H\n#define \w+_H|include .*|ifdef __cplusplus\n(?:.*\n)*?#endif|endif"
+    r"|if !defined.*\n#error .*\n#endif)|(?:/\*[^*]*\*/\n)?COMPRESSOR_ASSERT_\([^;]*\);)\n",
+    re.M,
+)
+# An inline function: the page has what declares it.
+INLINE = re.compile(r"^(static inline [^;{]*?) \{( /\*.*?\*/)?\n(?:[^}\n].*\n)*?\}", re.M)
 
 
 def names_of(text):
@@ -62,7 +68,7 @@ def written(text):
 def declared(code):
     """Declarations as roff, with the functions' names in bold."""
     found = set(names_of(code))
-    lines = literal(code.split("\n"))
+    lines = literal(INLINE.sub(r"\1;\2", code).split("\n"))
     return [re.sub(r"\b(\w+)(?=\()", lambda it: f"\\fB{it[1]}\\fR" if it[1] in found else it[1], it) for it in lines]
 
 
@@ -75,7 +81,7 @@ def page_of(text, version):
     out += [".SH DESCRIPTION", *written(head[1]), ".SH TYPES AND NUMBERS"]
     waiting = None
     for kind, body in parts:
-        if kind == "text" and re.fullmatch(r"[A-Z ]+", body):
+        if kind == "text" and re.fullmatch(r"[A-Z ]+(?:\(.*\))?", body):
             out += [f".SH {body}"]
         elif kind == "text":
             if waiting:
@@ -87,7 +93,8 @@ def page_of(text, version):
                 out += [".PP", *written(waiting)] if waiting else []
                 waiting = None
     out += [".PP", *written(waiting)] if waiting else []
-    out += [".SH SEE ALSO", ".BR compressor (1),", "and C.md of the documents, which has the cycle as a whole."]
+    out += [".SH SEE ALSO", ".BR compressor (1),", "compressor_rest.h, inline functions for a heap at rest,"]
+    out += ["and C.md of the documents, which has the cycle as a whole."]
     return "\n".join(out) + "\n"
 
 
