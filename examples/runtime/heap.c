@@ -1,8 +1,8 @@
 /* heap.c: all that talks to the collector. To embed the collector, copy this file and heap.h.
 
    Of a cycle:
-   1. An evaluator whose call finds no room (COMP_OUT_OF_PAGES, COMP_JOURNAL_FULL) wants a stop. Each evaluator arrives
-      at its safepoint and hands its mutator back.
+   1. An evaluator whose call finds no room (COMPRESSOR_OUT_OF_PAGES, COMPRESSOR_JOURNAL_FULL) wants a stop. Each
+      evaluator arrives at its safepoint and hands its mutator back.
    2. The last one to arrive turns the cycle for all: it waits until the collectors have swept, finishes the heap, makes
       the next one of what the stacks reach, plans it, flips it, and hands out new mutators and forwarded roots.
    3. The evaluators go on. The collectors sweep at the same time, and hand their mutators back.
@@ -23,7 +23,7 @@ enum { WAIT, FINISH, MARK, PLAN, FLIP, ROOTS, PARTS };
 static const char *const part_names[PARTS] = {"wait for the sweep", "finish", "mark", "plan", "flip", "roots"};
 
 typedef struct collector {
-    comp_handle mutator;
+    compressor_mutator mutator;
     uint32_t number;
     pthread_t thread;
     uint64_t swept; /* the cycle that it swept last */
@@ -34,8 +34,10 @@ static struct {
     pthread_mutex_t lock;
     pthread_cond_t changed; /* evaluators wait for it */
     pthread_cond_t flipped; /* collectors wait for it; to wake them at each stop would lengthen the pause */
-    comp_handle crew;      /* between flips; while a cycle turns: the finished heap, the next heap, its plan */
-    comp_handle new_crew;
+    compressor_crew crew;  /* between flips; while a cycle turns one of these three keeps the heap */
+    compressor_end end;
+    compressor_heap next;
+    compressor_plan plan;
     uint64_t *roots;
     size_t root_count;
     evaluator evaluators[MOST_EVALUATORS];
@@ -55,8 +57,9 @@ static struct {
 } heap;
 
 /* A call of the collector that can only fail by a fault of this file. */
-static void broken(const char *call, comp_answer a) {
-    fprintf(stderr, "heap: %s answered %u, %llu\n", call, (unsigned)a.status, (unsigned long long)a.value);
+static void broken(const char *call, compressor_answer a) {
+    fprintf(stderr, "heap: %s answered %s, %llu\n", call, compressor_status_text(a.status),
+            (unsigned long long)a.value);
     abort();
 }
 
@@ -71,8 +74,8 @@ static void raise_to(uint64_t *most, uint64_t value) {
     if (value > *most) *most = value;
 }
 
-static int no_memory(comp_answer a) {
-    return a.status == COMP_OUT_OF_MEMORY || a.status == COMP_LAYOUT + 11;
+static int no_memory(compressor_answer a) {
+    return a.status == COMPRESSOR_OUT_OF_MEMORY;
 }
 
 /* Makes a call that does not wait, up to TRIES times while there is no memory. */
@@ -84,16 +87,16 @@ static int no_memory(comp_answer a) {
     } while (0)
 
 /* Null if the call is done, or the name of an error. */
-static const char *fault_of(const char *call, comp_answer a) {
-    if (a.status == COMP_DONE) return NULL;
-    if (no_memory(a) || a.status == COMP_LAYOUT + 1) return "OutOfMemory";
+static const char *fault_of(const char *call, compressor_answer a) {
+    if (a.status == COMPRESSOR_DONE) return NULL;
+    if (no_memory(a) || a.status == COMPRESSOR_TOO_LARGE || a.status == COMPRESSOR_TOO_MANY_PAGES) return "OutOfMemory";
     broken(call, a);
     return NULL;
 }
 
 #define STEP(call)                                   \
     do {                                             \
-        comp_answer answer_;                         \
+        compressor_answer answer_;                   \
         const char *fault_;                          \
         TRY(answer_, call);                          \
         fault_ = fault_of(#call, answer_);           \
@@ -126,16 +129,17 @@ void heap_stop(const char *error) {
 
 /* Builds each second page, from the collector's number on. Null, or the name of an error. */
 static const char *sweep(collector *c, uint64_t *built) {
-    comp_answer pages = comp_compacted_pages(&c->mutator), a;
+    compressor_mutator_facts facts;
+    compressor_answer a = compressor_mutator_facts_of(&c->mutator, &facts);
     uint64_t p;
-    if (pages.status != COMP_DONE) broken("comp_compacted_pages", pages);
-    for (p = c->number; p < pages.value; p += COLLECTORS) {
+    if (a.status != COMPRESSOR_DONE) broken("compressor_mutator_facts_of", a);
+    for (p = c->number; p < facts.compacted_pages; p += COLLECTORS) {
         for (;;) {
-            TRY(a, comp_touch(&c->mutator, p));
-            if (a.status != COMP_BUSY) break;
+            TRY(a, compressor_mutator_touch(&c->mutator, p));
+            if (a.status != COMPRESSOR_BUSY) break;
             sched_yield();
         }
-        if (a.status != COMP_DONE) return fault_of("comp_touch", a);
+        if (a.status != COMPRESSOR_DONE) return fault_of("compressor_mutator_touch", a);
         *built += a.value;
     }
     return NULL;
@@ -147,14 +151,14 @@ static void *collect(void *given) {
     pthread_mutex_lock(&heap.lock);
     for (;;) {
         uint64_t built = 0;
-        comp_answer a;
+        compressor_answer a;
         while (c->swept == heap.flips && !heap.ending) pthread_cond_wait(&heap.flipped, &heap.lock);
         if (c->swept == heap.flips) break;
         pthread_mutex_unlock(&heap.lock);
         fault = sweep(c, &built);
         pthread_mutex_lock(&heap.lock);
-        TRY(a, comp_give(&heap.crew, &c->mutator));
-        if (!fault) fault = fault_of("comp_give", a);
+        TRY(a, compressor_crew_give(&heap.crew, &c->mutator));
+        if (!fault) fault = fault_of("compressor_crew_give", a);
         if (fault) end_with(fault, "");
         c->swept++;
         heap.swept_pages += built;
@@ -180,15 +184,15 @@ static const char *hand_out(void) {
     slot s;
     for (k = 0; k < heap.options.evaluators; k++) {
         evaluator *e = &heap.evaluators[k];
-        STEP(comp_take(&heap.crew, &e->mutator));
+        STEP(compressor_crew_take(&heap.crew, &e->mutator));
         e->allocated = 0;
         for (s = 0; s < e->top; s++) {
-            comp_answer a = comp_root(&e->mutator, number++);
-            if (a.status != COMP_DONE) broken("comp_root", a);
+            compressor_answer a = compressor_mutator_root(&e->mutator, number++);
+            if (a.status != COMPRESSOR_DONE) broken("compressor_mutator_root", a);
             e->stack[s] = a.value;
         }
     }
-    for (k = 0; k < COLLECTORS; k++) STEP(comp_take(&heap.crew, &heap.collectors[k].mutator));
+    for (k = 0; k < COLLECTORS; k++) STEP(compressor_crew_take(&heap.crew, &heap.collectors[k].mutator));
     return NULL;
 }
 
@@ -196,22 +200,19 @@ static const char *hand_out(void) {
 static const char *begin_cycle(void) {
     uint32_t mutators = heap.options.evaluators + COLLECTORS;
     const char *fault;
-    comp_answer pages;
+    compressor_mutator_facts facts;
     uint64_t t = now();
-    STEP(comp_plan(&heap.crew));
+    STEP(compressor_heap_plan(&heap.next, &heap.plan));
     t = time_part(PLAN, t);
-    STEP(comp_flip(&heap.crew, ++heap.names, mutators, mutators * heap.options.pages, &heap.new_crew));
-    comp_drop(&heap.crew);
-    heap.crew = heap.new_crew;
-    memset(&heap.new_crew, 0, sizeof heap.new_crew);
+    STEP(compressor_plan_flip(&heap.plan, ++heap.names, mutators, mutators * heap.options.pages, &heap.crew));
+    compressor_plan_drop(&heap.plan);
     t = time_part(FLIP, t);
     fault = hand_out();
     if (fault) return fault;
     time_part(ROOTS, t);
-    pages = comp_compacted_pages(&heap.evaluators[0].mutator);
-    if (pages.status != COMP_DONE) broken("comp_compacted_pages", pages);
-    heap.compacted = pages.value;
-    heap.all_compacted += pages.value;
+    STEP(compressor_mutator_facts_of(&heap.evaluators[0].mutator, &facts));
+    heap.compacted = facts.compacted_pages;
+    heap.all_compacted += facts.compacted_pages;
     heap.sweeping = COLLECTORS;
     heap.flips++;
     return heap.compacted * 64 > heap.options.limit ? "OutOfMemory" : NULL;
@@ -219,14 +220,14 @@ static const char *begin_cycle(void) {
 
 /* Finishes the crew, all of which was handed back. It tells the words that slid and those of new objects, added. */
 static const char *finish_cycle(void) {
-    comp_answer a;
+    compressor_answer a;
     uint32_t k;
     const char *fault;
-    TRY(a, comp_finish(&heap.crew));
-    fault = fault_of("comp_finish", a);
+    TRY(a, compressor_crew_finish(&heap.crew, &heap.end));
+    fault = fault_of("compressor_crew_finish", a);
     if (fault) return fault;
     for (k = 0; k < heap.options.evaluators; k++) a.value -= heap.evaluators[k].allocated;
-    if ((a.value + 63) / 64 != heap.compacted) broken("comp_finish", a);
+    if ((a.value + 63) / 64 != heap.compacted) broken("compressor_crew_finish", a);
     heap.live = a.value;
     return NULL;
 }
@@ -247,7 +248,7 @@ static const char *turn(void) {
         if (e->top > 0) memcpy(heap.roots + heap.root_count, e->stack, e->top * sizeof *e->stack);
         heap.root_count += e->top;
     }
-    STEP(comp_next_reached(&heap.crew, heap.roots, heap.root_count));
+    STEP(compressor_end_next_by_roots(&heap.end, heap.roots, heap.root_count, &heap.next));
     time_part(MARK, t);
     return begin_cycle();
 }
@@ -257,12 +258,12 @@ static const char *turn(void) {
 /* The evaluator stops until the cycle has turned, or the program ends. The lock is held. */
 static void stop_here(evaluator *e, uint64_t since) {
     uint64_t flips = heap.flips;
-    comp_answer a;
+    compressor_answer a;
     const char *fault;
     uint64_t pause;
     if (heap.ending) return;
-    TRY(a, comp_give(&heap.crew, &e->mutator));
-    fault = fault_of("comp_give", a);
+    TRY(a, compressor_crew_give(&heap.crew, &e->mutator));
+    fault = fault_of("compressor_crew_give", a);
     if (!fault && ++heap.stopped < heap.options.evaluators) {
         while (heap.flips == flips && !heap.ending) pthread_cond_wait(&heap.changed, &heap.lock);
     } else {
@@ -320,25 +321,25 @@ void heap_tell(void (*change)(void *with), void *with) {
 /* The calls of a mutator. Each is made again until it is settled. It takes its addresses from the slots each time: a
    collection may have come in between. */
 
-static int settled(evaluator *e, comp_answer a, const char *call) {
+static int settled(evaluator *e, compressor_answer a, const char *call) {
     if (e->began) raise_to(&e->slowest_call, now() - e->began);
     switch (a.status) {
-    case COMP_DONE:
+    case COMPRESSOR_DONE:
         e->refused = 0;
         return 1;
-    case COMP_BUSY:
+    case COMPRESSOR_BUSY:
         e->busy++;
         sched_yield();
         return 0;
-    case COMP_OUT_OF_PAGES:
+    case COMPRESSOR_OUT_OF_PAGES:
         e->pages_out++;
         heap_collect(e);
         return 0;
-    case COMP_JOURNAL_FULL:
+    case COMPRESSOR_JOURNAL_FULL:
         e->journals_full++;
         heap_collect(e);
         return 0;
-    case COMP_OUT_OF_MEMORY:
+    case COMPRESSOR_OUT_OF_MEMORY:
         if (++e->refused >= TRIES) heap_fail(e, "OutOfMemory", "");
         sched_yield();
         return 0;
@@ -349,47 +350,47 @@ static int settled(evaluator *e, comp_answer a, const char *call) {
 }
 
 void heap_new(evaluator *e, slot to, uint32_t refs, uint32_t data_words, uint32_t tag) {
-    comp_answer a;
+    compressor_answer a;
     do {
         e->began = now();
-        a = comp_alloc(&e->mutator, refs, 0, data_words, tag);
-    } while (!settled(e, a, "comp_alloc"));
+        a = compressor_mutator_alloc(&e->mutator, heap_header(refs, data_words, tag));
+    } while (!settled(e, a, "compressor_mutator_alloc"));
     e->stack[to] = a.value;
     e->allocated += 1 + refs + data_words;
 }
 
 void heap_ref(evaluator *e, slot to, slot object, uint32_t field) {
-    comp_answer a;
+    compressor_answer a;
     do {
         e->began = now();
-        a = comp_read_ref(&e->mutator, e->stack[object], field);
-    } while (!settled(e, a, "comp_read_ref"));
+        a = compressor_mutator_read_ref(&e->mutator, e->stack[object], field);
+    } while (!settled(e, a, "compressor_mutator_read_ref"));
     e->stack[to] = a.value;
 }
 
 void heap_set_ref(evaluator *e, slot object, uint32_t field, slot value) {
-    comp_answer a;
+    compressor_answer a;
     do {
         e->began = now();
-        a = comp_write_ref(&e->mutator, e->stack[object], field, e->stack[value]);
-    } while (!settled(e, a, "comp_write_ref"));
+        a = compressor_mutator_write_ref(&e->mutator, e->stack[object], field, e->stack[value]);
+    } while (!settled(e, a, "compressor_mutator_write_ref"));
 }
 
 uint64_t heap_word(evaluator *e, slot object, uint32_t field) {
-    comp_answer a;
+    compressor_answer a;
     do {
         e->began = now();
-        a = comp_read_data(&e->mutator, e->stack[object], field);
-    } while (!settled(e, a, "comp_read_data"));
+        a = compressor_mutator_read_data(&e->mutator, e->stack[object], field);
+    } while (!settled(e, a, "compressor_mutator_read_data"));
     return a.value;
 }
 
 void heap_set_word(evaluator *e, slot object, uint32_t field, uint64_t value) {
-    comp_answer a;
+    compressor_answer a;
     do {
         e->began = now();
-        a = comp_write_data(&e->mutator, e->stack[object], field, value);
-    } while (!settled(e, a, "comp_write_data"));
+        a = compressor_mutator_write_data(&e->mutator, e->stack[object], field, value);
+    } while (!settled(e, a, "compressor_mutator_write_data"));
 }
 
 /* The stack. */
@@ -423,11 +424,14 @@ int heap_same(const evaluator *e, slot a, slot b) {
 /* Start and end. */
 
 uint64_t heap_header(uint64_t refs, uint64_t data_words, uint64_t tag) {
-    return refs + (data_words << 16) + (tag << 48);
+    const compressor_shape shape = {(uint32_t)refs, 0, (uint32_t)data_words, (uint32_t)tag};
+    uint64_t header = 0;
+    if (!compressor_shape_header(EDITION, shape, &header)) abort();
+    return header;
 }
 
 uint64_t heap_first_address(uint64_t i) {
-    return 4294967296u + i;
+    return COMPRESSOR_FROM_SPACE + i;
 }
 
 evaluator *heap_evaluator(uint32_t number) {
@@ -460,7 +464,7 @@ static const char *first_cycle(const uint64_t *words, size_t word_count, const u
         memcpy(heap.roots + heap.root_count, roots, root_count * sizeof *roots);
         heap.root_count += root_count;
     }
-    STEP(comp_mark(&heap.crew, EDITION, words, word_count, heap.roots, heap.root_count));
+    STEP(compressor_heap_by_roots(EDITION, words, word_count, heap.roots, heap.root_count, &heap.next));
     return begin_cycle();
 }
 
@@ -487,7 +491,7 @@ const char *heap_start(const struct heap_options *options, const uint64_t *words
 /* The last finish, which counts the words that are live. */
 static const char *last_cycle(void) {
     uint32_t k;
-    for (k = 0; k < heap.options.evaluators; k++) STEP(comp_give(&heap.crew, &heap.evaluators[k].mutator));
+    for (k = 0; k < heap.options.evaluators; k++) STEP(compressor_crew_give(&heap.crew, &heap.evaluators[k].mutator));
     return finish_cycle();
 }
 
@@ -499,12 +503,14 @@ const char *heap_end(void) {
     if (!*heap.error) fault = last_cycle();
     if (fault) snprintf(heap.error, sizeof heap.error, "%s", fault);
     for (k = 0; k < heap.options.evaluators; k++) {
-        comp_drop(&heap.evaluators[k].mutator);
+        compressor_mutator_drop(&heap.evaluators[k].mutator);
         free(heap.evaluators[k].stack);
     }
-    for (k = 0; k < COLLECTORS; k++) comp_drop(&heap.collectors[k].mutator);
-    comp_drop(&heap.crew);
-    comp_drop(&heap.new_crew);
+    for (k = 0; k < COLLECTORS; k++) compressor_mutator_drop(&heap.collectors[k].mutator);
+    compressor_crew_drop(&heap.crew);
+    compressor_end_drop(&heap.end);
+    compressor_heap_drop(&heap.next);
+    compressor_plan_drop(&heap.plan);
     free(heap.roots);
     pthread_cond_destroy(&heap.changed);
     pthread_cond_destroy(&heap.flipped);

@@ -29,7 +29,7 @@ typedef uint32_t slot;
 
 /* A thread that runs the program, with its mutator and its roots. */
 typedef struct evaluator {
-    comp_handle mutator;
+    compressor_mutator mutator;
     uint64_t *stack;       /* the roots: the slots below top */
     slot top;
     uint32_t number;
