@@ -1,0 +1,34 @@
+/* lent.h: what the back ends of ours at rest share: tables that are kept, and all roots in one array. */
+#ifndef LENT_H
+#define LENT_H
+
+#include "native.h"
+
+static compressor_tables tables;
+static uint64_t *all_roots;
+
+/* The value of an answer; ends the program if the call was refused. */
+static inline uint64_t done(compressor_answer answer) {
+    if (answer.status != COMPRESSOR_DONE) die(compressor_status_text(answer.status));
+    return answer.value;
+}
+
+static inline void lent_start(size_t room) {
+    done(compressor_tables_reserve(room, &tables));
+    all_roots = zeroed_words(MOST_THREADS * (size_t)MOST_ROOTS);
+    space.room = room;
+    space_moved(zeroed_words(room), 0);
+}
+
+/* The roots of all mutators go into the array, and back. */
+static inline size_t roots_gather(void) {
+    size_t count = 0;
+    EACH_ROOT(root) all_roots[count++] = *root;
+    return count;
+}
+static inline void roots_scatter(void) {
+    size_t count = 0;
+    EACH_ROOT(root) *root = all_roots[count++];
+}
+
+#endif
