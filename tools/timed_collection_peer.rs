@@ -1,10 +1,15 @@
 //! The collections of the program timed_collection, as one writes them in Rust without proofs: the same heaps, the same
 //! algorithm, and the same promises. It looks only at live objects, and refuses a root, a reference or a weak word that
 //! leads nowhere, and a live object that ends past the words or overlaps another one. It takes the same words and
-//! prints the same lines.
+//! prints the same lines. Several threads mark by another algorithm, that of timed_collection_threads.rs.
 #![allow(dead_code)] // the causes of refusals, which nothing here reads
+mod timed_collection_heaps;
+mod timed_collection_threads;
+
 use std::process::ExitCode;
 use std::thread;
+use timed_collection_heaps::{made, Asked};
+use timed_collection_threads::mark_by_threads;
 
 const FROM: u64 = 1 << 32;
 const MOST_WORDS: usize = 1 << 31;
@@ -196,6 +201,19 @@ impl<'w> Survey<'w> {
         Ok(Survey { words, heads, bits, counts })
     }
 
+    /// The same by so many threads. Where they meet a fault one thread looks for it.
+    fn of_by_threads(words: &'w [u64], roots: &[u64], workers: usize) -> Result<Survey<'w>, Fault> {
+        let blocks = words.len().div_ceil(64);
+        let (mut heads, mut bits) = (vec![0; blocks], vec![0; blocks]);
+        let sizes = words.len() <= MOST_WORDS && roots.len() <= MOST_ROOTS;
+        if !sizes || !mark_by_threads(words, roots, &mut heads, &mut bits, workers) {
+            return Survey::of(words, roots);
+        }
+        let mut counts = Vec::with_capacity(blocks + 1);
+        put_offsets(&bits, &mut counts);
+        Ok(Survey { words, heads, bits, counts })
+    }
+
     fn live_words(&self) -> usize {
         self.counts[self.bits.len()] as usize
     }
@@ -360,55 +378,6 @@ fn collect_by_threads(words: &[u64], roots: &mut [u64], to: &mut [u64]) -> Resul
     Ok(live)
 }
 
-/// The words of the heap, the references and data words of each object, how many objects of a hundred are live, whether
-/// these lie in the order in which the root reaches them, and the rounds.
-#[derive(Clone, Copy)]
-struct Asked { words: usize, refs: u64, data: u64, live: u64, in_order: bool, rounds: usize }
-
-impl Asked {
-    fn by(words: &[String]) -> Option<Asked> {
-        let number = |at: usize| words.get(at)?.parse::<u32>().ok();
-        let fields = |at: usize| Some(u64::from(words.get(at)?.parse::<u16>().ok()?));
-        let (count, live, rounds) = (number(0)? as usize, number(3)?.into(), number(5)? as usize);
-        let asked = Asked { words: count, refs: fields(1)?, data: fields(2)?, live, in_order: number(4)? != 0, rounds };
-        (count <= MOST_WORDS).then_some(asked)
-    }
-}
-
-fn drawn(k: u64) -> u64 {
-    let x = k.wrapping_add(0x9e37_79b9_7f4a_7c15);
-    let x = (x ^ (x >> 30)).wrapping_mul(0xbf58_476d_1ce4_e5b9);
-    let x = (x ^ (x >> 27)).wrapping_mul(0x94d0_49bb_1331_11eb);
-    x ^ (x >> 31)
-}
-
-/// The words of the heap, and its root. The live objects are a binary tree in the order in which they are drawn.
-fn made(asked: Asked) -> (Vec<u64>, u64) {
-    let size = 1 + asked.refs + asked.data;
-    let objects = asked.words as u64 / size;
-    let mut order: Vec<u64> = (0..objects).filter(|&k| drawn(k) % 100 < asked.live).collect();
-    let count = order.len() as u64;
-    for j in 0..if asked.in_order { 0 } else { count } {
-        order.swap(j as usize, (j + (drawn(j) >> 33) % (count - j)) as usize);
-    }
-    let mut words = Vec::with_capacity(asked.words);
-    for k in 0..objects {
-        words.push(asked.refs | asked.data << 16 | 7 << 48);
-        words.extend((0..asked.refs).map(|r| FROM + (drawn(k * 7 + r) >> 33) % objects * size));
-        words.extend((0..asked.data).map(|d| k + d));
-    }
-    words.resize(asked.words, 0);
-    let address = |place: u64| order.get(place as usize).map_or(0, |&k| FROM + k * size);
-    for (j, &k) in (0..).zip(&order) {
-        for r in 0..asked.refs {
-            let place = if r < 2 { 2 * j + 1 + r } else { (drawn(j * 5 + r) >> 33) % count };
-            words[(k * size + 1 + r) as usize] = address(place);
-        }
-    }
-    let root = address(0);
-    (words, root)
-}
-
 fn sum(begun: u64, words: &[u64]) -> u64 {
     words.iter().fold(begun, |sum, &word| sum.wrapping_mul(31).wrapping_add(word))
 }
@@ -435,6 +404,9 @@ fn run(asked: Asked, mode: &str, words: &[u64], root: u64, to: &mut [u64]) -> Re
             }
             ("6", _) => left = (collect_lent(&mut tables, words, &mut roots, to)?, roots[0]),
             ("8", _) => to.copy_from_slice(words),
+            ("9", _) => left.0 = Survey::of_by_threads(words, &roots, 1)?.live_words(),
+            ("10", _) => left.0 = Survey::of_by_threads(words, &roots, 2)?.live_words(),
+            ("11", _) => left.0 = Survey::of_by_threads(words, &roots, 4)?.live_words(),
             ("7", _) => left = (collect_by_threads(words, &mut roots, to)?, roots[0]),
             _ => (),
         }
@@ -445,7 +417,7 @@ fn run(asked: Asked, mode: &str, words: &[u64], root: u64, to: &mut [u64]) -> Re
 fn main() -> ExitCode {
     let words: Vec<String> = std::env::args().skip(1).collect();
     let Some(asked) = Asked::by(&words) else {
-        eprintln!("timed_collection_peer: wants WORDS REFS DATA LIVE ORDER ROUNDS MODE...");
+        eprintln!("timed_collection_peer: wants WORDS REFS DATA LIVE SHAPE ROUNDS MODE...");
         return ExitCode::from(2);
     };
     for mode in &words[6..] {

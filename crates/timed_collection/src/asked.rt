@@ -22,6 +22,29 @@ pub enum Mode {
     CollectByThreads,
     /// A copy of the heap alone.
     Copy,
+    /// A survey with the root by so many threads.
+    MarkByThreads(usize),
+}
+
+/// What the heap is.
+#[derive(Clone, Copy)]
+pub enum Shape {
+    /// A binary tree of the live objects, in an order that looks as if it were drawn.
+    Drawn,
+    /// The same level by level, as they lie.
+    Levels,
+    /// A binary tree of all objects, each subtree behind its parent.
+    Tree,
+    /// Objects whose references lead anywhere.
+    Graph,
+    /// A table, and chains of objects of which each begins at one of its references.
+    Chains,
+    /// A binary tree of arrays, whose other references lead to objects.
+    Arrays,
+    /// A list of all objects.
+    List,
+    /// One array, whose references lead to all objects.
+    Array,
 }
 
 /// What the words ask of each mode.
@@ -33,10 +56,10 @@ pub struct Asked {
     pub refs: u16,
     /// The number of data words of each object.
     pub data_words: u16,
-    /// How many objects of a hundred are reached.
+    /// How many objects of a hundred are reached, in a heap that is drawn or goes level by level.
     pub live: u32,
-    /// Whether they lie in the order in which the root reaches them.
-    pub in_order: bool,
+    /// What the heap is.
+    pub shape: Shape,
     /// The number of rounds.
     pub rounds: u32,
 }
@@ -63,14 +86,30 @@ fn fields(words: &[String], at: usize) -> Option<u16> {
     words.get(at)?.parse::<u16>().ok()
 }
 
-/// What the first six words ask; `None` if they are not six numbers, or if the heap would have too many words.
+// The shape of this number.
+fn shape_of(number: &str) -> Option<Shape> {
+    match number {
+        "0" => Some(Shape::Drawn),
+        "1" => Some(Shape::Levels),
+        "2" => Some(Shape::Tree),
+        "3" => Some(Shape::Graph),
+        "4" => Some(Shape::Chains),
+        "5" => Some(Shape::Arrays),
+        "6" => Some(Shape::List),
+        "7" => Some(Shape::Array),
+        _ => None,
+    }
+}
+
+/// What the first six words ask; `None` if they are not six numbers, if there is no such shape, or if the heap would
+/// have too many words.
 pub fn asked_by(words: &[String]) -> Option<Asked> {
     let asked = Asked {
         words: number(words, 0)?,
         refs: fields(words, 1)?,
         data_words: fields(words, 2)?,
         live: number(words, 3)?,
-        in_order: number(words, 4)? != 0,
+        shape: shape_of(words.get(4)?)?,
         rounds: number(words, 5)?,
     };
     if asked.words as usize > MAX_LARGE_WORDS {
@@ -91,6 +130,9 @@ pub fn mode_of(name: &str) -> Option<Mode> {
         "6" => Some(Mode::CollectLent),
         "7" => Some(Mode::CollectByThreads),
         "8" => Some(Mode::Copy),
+        "9" => Some(Mode::MarkByThreads(1)),
+        "10" => Some(Mode::MarkByThreads(2)),
+        "11" => Some(Mode::MarkByThreads(4)),
         _ => None,
     }
 }

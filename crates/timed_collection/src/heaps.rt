@@ -1,5 +1,6 @@
 //! The heaps that are collected.
-use crate::asked::Asked;
+use crate::asked::{Asked, Shape};
+use crate::shapes::made_of_all;
 use heap_layout::{FROM_SPACE, Header};
 use std::alloc::{AllocError, Global};
 
@@ -18,8 +19,8 @@ fn drawn(k: u64) -> u64 {
     x ^ (x >> 31)
 }
 
-// A number below `count` that looks as if it were drawn, and 0 if there is none.
-fn drawn_below(k: u64, count: u32) -> u32 {
+/// A number below `count` that looks as if it were drawn, and 0 if there is none.
+pub fn drawn_below(k: u64, count: u32) -> u32 {
     (drawn(k) >> 33).checked_rem(u64::from(count)).unwrap_or(0) as u32
 }
 
@@ -98,8 +99,8 @@ fn place_of_target(order: &[u32], j: usize, r: u16) -> usize {
     }
 }
 
-// Writes a word, if there is a place for it.
-fn put(words: &mut [u64], at: u64, word: u64) {
+/// Writes a word, if there is a place for it.
+pub fn put(words: &mut [u64], at: u64, word: u64) {
     if let Some(place) = words.get_mut(at as usize) {
         *place = word;
     }
@@ -117,11 +118,11 @@ fn link(words: &mut [u64], asked: Asked, order: &[u32], j: usize, k: u32) {
     }
 }
 
-/// The heap that is asked for. The root leads to a binary tree of the objects that are reached, which lie there level by
-/// level, or in an order that looks as if it were drawn.
-pub fn made(alloc: Global, asked: Asked) -> Result<Heap, AllocError> {
+// The root leads to a binary tree of the objects that are reached, which lie there level by level, or in an order that
+// looks as if it were drawn.
+fn made_of_live(alloc: Global, asked: Asked, is_drawn: bool) -> Result<Heap, AllocError> {
     let mut order = reached(alloc, asked)?;
-    if !asked.in_order {
+    if is_drawn {
         shuffle(&mut order);
     }
     let mut words = filled(alloc, asked)?;
@@ -132,6 +133,15 @@ pub fn made(alloc: Global, asked: Asked) -> Result<Heap, AllocError> {
         words,
         root: address_at(asked, &order, 0),
     })
+}
+
+/// The heap that is asked for.
+pub fn made(alloc: Global, asked: Asked) -> Result<Heap, AllocError> {
+    match asked.shape {
+        Shape::Drawn => made_of_live(alloc, asked, true),
+        Shape::Levels => made_of_live(alloc, asked, false),
+        shape => made_of_all(alloc, asked, shape),
+    }
 }
 
 /// A number in which each of these words counts, begun with one.

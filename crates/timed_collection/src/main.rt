@@ -1,17 +1,23 @@
 //! Collections of a heap at rest, in rounds. `tools/timed-collection` runs this program beside an unverified one that
 //! does the same and prints the same lines, and counts what each phase takes.
 //!
-//! Words: WORDS REFS DATA LIVE ORDER ROUNDS MODE... For each MODE it makes a heap of WORDS words, of objects with REFS
-//! references and DATA data words each, of which about LIVE of a hundred are reached, and as many words into which they
-//! may slide. The root reaches them in the order in which they lie, or with ORDER 0 in one that looks as if it were
-//! drawn. Then, ROUNDS times, it does what the mode says: 0, nothing; 1, a survey with no roots; 2, a survey with the
-//! heap's root; 3, a slide, by a survey that is made once before; 4, a whole collection; 5, one within a copy of the
-//! words, which is made first; 6, one by tables that are made once before; 7, one by 4 threads; 8, a copy of the words.
+//! Words: WORDS REFS DATA LIVE SHAPE ROUNDS MODE... For each MODE it makes a heap of WORDS words, of objects with REFS
+//! references and DATA data words each, and as many words into which they may slide. SHAPE says what the root reaches.
+//! 0 and 1: of all objects about LIVE of a hundred, in a binary tree, in an order that looks as if it were drawn, or in
+//! the one in which they lie. The others reach nearly all. 2: a binary tree, each subtree behind its parent; 3: objects
+//! whose references lead anywhere; 4: a table whose references lead to chains; 5: arrays of 500 references, most of
+//! which lead to objects with none; 6: a list; 7: one array whose references lead to all objects, which have none.
+//!
+//! Then, ROUNDS times, it does what the mode says: 0, nothing; 1, a survey with no roots; 2, a survey with the heap's
+//! root; 3, a slide, by a survey that is made once before; 4, a whole collection; 5, one within a copy of the words,
+//! which is made first; 6, one by tables that are made once before; 7, one by 4 threads; 8, a copy of the words; 9, 10
+//! and 11, a survey with the root by 1, 2 and 4 threads.
 #![tactic(auto)]
 
 mod asked;
 mod heaps;
 mod rounds;
+mod shapes;
 
 use asked::{Asked, Mode, asked_by, mode_of};
 use heaps::{made, sum};
@@ -51,7 +57,7 @@ fn start<R: Env + Print + Eprint + AllocGlobal + Threads + Sync>(rt: &R) -> u8 {
 
 // Says what words there are.
 fn misused<R: Eprint>(rt: &R) -> u8 {
-    let _ = rt.eprintln("timed_collection: wants WORDS REFS DATA LIVE ORDER ROUNDS MODE...");
+    let _ = rt.eprintln("timed_collection: wants WORDS REFS DATA LIVE SHAPE ROUNDS MODE...");
     MISUSED
 }
 

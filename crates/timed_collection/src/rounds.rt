@@ -36,6 +36,29 @@ fn survey_all(alloc: Global, asked: Asked, heap: &Heap, roots: &[u64]) -> Option
     Some(left)
 }
 
+// The same by so many threads.
+fn survey_all_by_threads<R: AllocGlobal + Threads + Sync>(
+    rt: &R,
+    asked: Asked,
+    heap: &Heap,
+    workers: usize,
+) -> Option<Left> {
+    let mut left = Left::nothing(heap);
+    let roots = [heap.root];
+    for _ in 0..asked.rounds {
+        let survey = Survey::of_by_threads(
+            rt.alloc(),
+            rt,
+            workers,
+            Edition::Three,
+            &heap.words,
+            &roots,
+        ).ok()?;
+        left.live = survey.live_words();
+    }
+    Some(left)
+}
+
 // Slides all that a survey found.
 fn slide_once(survey: &Survey<'_>, heap: &Heap, to: &mut [u64]) -> Option<Left> {
     let live = survey.live_words();
@@ -165,5 +188,6 @@ pub fn run<R: AllocGlobal + Threads + Sync>(
         Mode::CollectLent => collect_all_lent(rt.alloc(), asked, heap, to),
         Mode::CollectByThreads => collect_all_by_threads(rt, asked, heap, to),
         Mode::Copy => copy_all(asked, heap, to),
+        Mode::MarkByThreads(workers) => survey_all_by_threads(rt, asked, heap, workers),
     }
 }
