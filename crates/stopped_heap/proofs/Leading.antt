@@ -1,5 +1,5 @@
 -- What several threads find is reached.
-use Rattle.std.proofs.Common.{◌≡◌, ◌≢◌, ℕ, ◌<◌, false, List, [], ◌∷◌, ◌++◌, Contains, length, get_or, inl, inr, sym, subst, ◌∙◌}
+use Rattle.std.proofs.Common.{◌≡◌, ◌≢◌, ℕ, ◌<◌, false, List, [], ◌∷◌, ◌++◌, All, Contains, length, get_or, inl, inr, sym, subst, ◌∙◌}
 use Rattle.std.proofs.lemmas.Bool.{both_ways, cases_eq}
 use Rattle.std.proofs.lemmas.List.{get_or_default}
 use Rattle.std.proofs.lemmas.List.Elements.{All-push, All-nil}
@@ -48,3 +48,7 @@ reaching-more edition words roots queue old new i are reached elsewhere = record
 -- words that lead to objects that are reached, one by one
 pub word-reached : (edition : Edition) (words roots from : List ℕ) (k : ℕ) → LeadToReached edition words roots from → k < length from → IsReachedBy edition words roots (get_or from k 0)
 word-reached edition words roots from k lead lt i inside address = lead i (led-at words from k i 0 lt inside address)
+
+-- and of each of them
+pub words-reached : (edition : Edition) (words roots from : List ℕ) → LeadToReached edition words roots from → All (IsReachedBy edition words roots) from
+words-reached edition words roots from lead k d lt i inside address = lead i (led-at words from k i d lt inside address)

@@ -33,3 +33,5 @@ pub mod Tried
 pub mod Unchanged
 pub mod Leading
 pub mod Lasting
+pub mod Asking
+pub mod Covered

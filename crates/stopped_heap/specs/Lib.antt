@@ -10,3 +10,5 @@ pub mod Tables
 pub mod InPlace
 pub mod Places
 pub mod Rounds
+pub mod Kept
+pub mod LiveBits

@@ -25,9 +25,9 @@ fn index_of(count: usize, word: u64) -> Option<usize>
     Some(i as usize)
 }
 
-// How many references the object at index `i` has. None if it is too long for the edition or ends past the words.
+/// How many references the object at index `i` has. None if it is too long for the edition or ends past the words.
 #[inline(always)]
-fn refs_at(edition: Edition, words: &[u64], i: usize) -> Option<usize>
+pub(crate) fn refs_at(edition: Edition, words: &[u64], i: usize) -> Option<usize>
     requires few { length words.now ≤ 2 ^ 31 }
     requires inside { i < length words.now }
     ensures placed { IfSome result (λ _. IsPlaced edition words.now i) }
@@ -96,6 +96,30 @@ fn find_from(
         }
     }
     true
+}
+
+/// The objects to which these words lead, except those whose bits are set. One to which several lead is there as often.
+/// None if memory runs out.
+pub(crate) fn found_among(
+    alloc: Global,
+    edition: Edition,
+    words: &[u64],
+    roots: &[u64],
+    heads: &[u64],
+    from: &[u64],
+) -> Option<Vec<u32>>
+    requires few { length words.now ≤ 2 ^ 31 }
+    requires room { length words.now ≤ 64 * length heads.now }
+    requires lead { All (IsReachedBy edition words.now roots.now) from.now }
+    ensures { IsFoundPart edition words.now roots.now result }
+{
+    let mut found = Vec::new(alloc);
+    for k in 0..from.len() {
+        if find(edition, words, roots, heads, &mut found, from[k]).is_err() {
+            return None;
+        }
+    }
+    Some(found)
 }
 
 /// The objects to which the references of these objects lead, except those whose bits are set. One to which several
@@ -205,31 +229,6 @@ pub(crate) fn meet_led(
         meet_by(edition, words, roots, heads, queue, from[k])?;
     }
     Ok(())
-}
-
-/// Follows the references of the object at index `i`: meets the objects to which they lead. The answer is false if it
-/// is too long for the edition or ends past the words, or memory runs out.
-#[inline(always)]
-pub(crate) fn follow(
-    edition: Edition,
-    words: &[u64],
-    roots: &[u64],
-    heads: &mut [u64],
-    queue: &mut Vec<u32>,
-    i: usize,
-) -> bool
-    requires few { length words.now ≤ 2 ^ 31 }
-    requires room { length words.now ≤ 64 * length heads.old }
-    requires reached { IsReachedFrom edition words.now roots.now i }
-    requires met { AreReaching edition words.now roots.now queue.old.items heads.old }
-    ensures met { result ≡ true → AreReaching edition words.now roots.now queue.new.items heads.new }
-    ensures length { length heads.new ≡ length heads.old }
-{
-    let Some(refs) = refs_at(edition, words, i) else {
-        return false;
-    };
-    let from = references(edition, words, i, refs);
-    meet_led(edition, words, roots, heads, queue, from).is_ok()
 }
 
 // Meets these objects.

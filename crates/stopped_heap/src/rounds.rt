@@ -1,17 +1,22 @@
 //! What the roots reach, found by several threads. It is the breadth-first search of the plain marker, done by rounds:
-//! while many objects wait in the queue, each thread takes a run of them and looks up what their references lead to.
-//! The threads only read, and each answers a list. The caller then meets what they found, one list after the other.
-//! While few objects wait, the caller follows them alone.
+//! while many objects wait in the queue, each thread takes a run of them and looks up what their references lead to; and
+//! so it does with a run of the references of one object that has very many. The threads only read, and each answers a
+//! list. The caller then meets what they found, one list after the other. Else it follows an object alone.
 //!
-//! Nothing here shows that all was met. That, and that each object is sound, is asked afterwards of the objects that
-//! were met, in the order of their addresses.
+//! Nothing here shows that all was met. That, and that each object is sound, the threads ask afterwards of the objects
+//! that were met, in the order of their addresses. Then they set the bits of the objects' words.
 ghost use Rattle.std.specs.Prelude.{◌≡◌, ℕ, ◌*◌, ◌^◌, ◌<◌, ◌≤◌, true, false, All, length, IfOk, IfSome, OnOk};
 ghost use Rattle.heap_layout.specs.Bits.{bit};
+ghost use Rattle.heap_layout.specs.Header.{refs_of};
+ghost use Rattle.heap_layout.specs.Heap.{header_at, IsPlaced};
 ghost use Rattle.stopped_heap.specs.Reached.{IsReachedFrom};
-ghost use Rattle.stopped_heap.specs.Rounds.{AreAllMarked, AreReaching, IsFoundPart};
+ghost use Rattle.stopped_heap.specs.Rounds.{AreAllMarked, AreReaching, IsFoundPart, IsReachedBy};
 
-use crate::found::{follow, found_by, meet_led, meet_parts};
-use crate::marks::{check_kept, take_marks};
+use crate::found::{found_among, found_by, meet_led, meet_parts, refs_at};
+use crate::kept::are_all_kept;
+use crate::live_bits::fill_by_threads;
+use crate::marking::references;
+use crate::marks::check_kept;
 use heap_layout::Edition;
 use std::alloc::{AllocError, Global};
 use std::thread;
@@ -19,6 +24,9 @@ use std::thread::Threads;
 
 /// The most threads that are at work at once.
 pub(crate) const MAX_WORKERS: usize = 64;
+
+// Threads follow the references of one object if there are so many times `wide` of them or more.
+const SHARED: usize = 12;
 
 // The most objects of a round, so that what the threads found is not long.
 const LONG: usize = 262_144;
@@ -69,6 +77,87 @@ fn found_by_threads<R: Threads + Sync>(
     thread::map_indices(rt, alloc, workers, &part)
 }
 
+// What thread `k` finds: the objects to which its run of `size` of these words leads.
+fn led_at(
+    alloc: Global,
+    edition: Edition,
+    words: &[u64],
+    roots: &[u64],
+    heads: &[u64],
+    from: &[u64],
+    size: usize,
+    k: usize,
+) -> Option<Vec<u32>>
+    requires few { length words.now ≤ 2 ^ 31 }
+    requires room { length words.now ≤ 64 * length heads.now }
+    requires lead { All (IsReachedBy edition words.now roots.now) from.now }
+    ensures { IsFoundPart edition words.now roots.now result }
+{
+    let first = k.saturating_mul(size).min(from.len());
+    let end = first.saturating_add(size).min(from.len());
+    found_among(alloc, edition, words, roots, heads, &from[first..end])
+}
+
+// What these words lead to, found by so many threads, each of which has a run of them.
+fn led_by_threads<R: Threads + Sync>(
+    alloc: Global,
+    rt: &R,
+    workers: usize,
+    edition: Edition,
+    words: &[u64],
+    roots: &[u64],
+    heads: &[u64],
+    from: &[u64],
+) -> Result<Vec<Option<Vec<u32>>>, AllocError>
+    requires workers { 0 < workers }
+    requires few { length words.now ≤ 2 ^ 31 }
+    requires room { length words.now ≤ 64 * length heads.now }
+    requires lead { All (IsReachedBy edition words.now roots.now) from.now }
+    ensures { IfOk result (λ parts. All (IsFoundPart edition words.now roots.now) parts.items) }
+{
+    let size = from.len().div_ceil(workers);
+    let part = move |k: usize| -> Option<Vec<u32>>
+        requires { (length words.now ≤ 2 ^ 31) × (length words.now ≤ 64 * length heads.now) × All (IsReachedBy edition words.now roots.now) from.now }
+        ensures { IsFoundPart edition words.entry.now roots.entry.now result }
+    { led_at(alloc, edition, words, roots, heads, from, size, k) };
+    thread::map_indices(rt, alloc, workers, &part)
+}
+
+// Follows the references of the object at index `i`, of which it has `refs`. If they are `many` or more, so many threads
+// look up runs of them. The answer is false if a thread gave up, or memory runs out.
+fn follow<R: Threads + Sync>(
+    alloc: Global,
+    rt: &R,
+    workers: usize,
+    many: usize,
+    edition: Edition,
+    words: &[u64],
+    roots: &[u64],
+    heads: &mut [u64],
+    queue: &mut Vec<u32>,
+    i: usize,
+    refs: usize,
+) -> bool
+    requires workers { 0 < workers }
+    requires few { length words.now ≤ 2 ^ 31 }
+    requires room { length words.now ≤ 64 * length heads.old }
+    requires reached { IsReachedFrom edition words.now roots.now i }
+    requires placed { IsPlaced edition words.now i }
+    requires refs { refs ≡ refs_of (header_at edition words.now i) }
+    requires met { AreReaching edition words.now roots.now queue.old.items heads.old }
+    ensures met { result ≡ true → AreReaching edition words.now roots.now queue.new.items heads.new }
+    ensures length { length heads.new ≡ length heads.old }
+{
+    let from = references(edition, words, i, refs);
+    if refs < many {
+        return meet_led(edition, words, roots, heads, queue, from).is_ok();
+    }
+    let Ok(parts) = led_by_threads(alloc, rt, workers, edition, words, roots, heads, from) else {
+        return false;
+    };
+    meet_parts(edition, words, roots, heads, queue, &parts)
+}
+
 // Follows the references of the objects from place `next` of the queue to place `end`, in so many threads. The answer
 // is false if a thread gave up, or memory runs out.
 fn follow_round<R: Threads + Sync>(
@@ -100,9 +189,10 @@ fn follow_round<R: Threads + Sync>(
     meet_parts(edition, words, roots, heads, queue, &parts)
 }
 
-// Follows the references of the object at place `next` of the queue, or of many from there on, in so many threads, if
-// `wide` of them or more wait. The answer is the place behind them. None if a thread gave up, or an object is too long
-// for the edition or ends past the words, or memory runs out.
+// Follows the references of the object at place `next` of the queue, in so many threads if they are very many; or those
+// of many objects from there on, in so many threads, if `wide` of them or more wait. The answer is the place behind what
+// was followed. None if a thread gave up, or an object is too long for the edition or ends past the words, or memory
+// runs out.
 fn follow_some<R: Threads + Sync>(
     alloc: Global,
     rt: &R,
@@ -123,10 +213,16 @@ fn follow_some<R: Threads + Sync>(
     ensures met { IfSome result (λ _. AreReaching edition words.now roots.now queue.new.items heads.new) }
     ensures length { length heads.new ≡ length heads.old }
 {
+    let i = queue[next] as usize;
+    let Some(refs) = refs_at(edition, words, i) else {
+        return None;
+    };
+    let many = wide.saturating_mul(SHARED);
     let waiting = (queue.len() - next).min(LONG);
-    if waiting < wide {
-        let i = queue[next] as usize;
-        if !follow(edition, words, roots, heads, queue, i) {
+    if waiting < wide || refs >= many {
+        if !follow(
+            alloc, rt, workers, many, edition, words, roots, heads, queue, i, refs,
+        ) {
             return None;
         }
         return Some(next + 1);
@@ -210,8 +306,9 @@ pub(crate) fn mark_by_threads<R: Threads + Sync>(
     if let Err(_) = check_kept(edition, heads, roots) {
         return Err(AllocError);
     }
-    if let Err(_) = take_marks(edition, words, heads, bits) {
+    if !are_all_kept(alloc, rt, workers, edition, words, heads) {
         return Err(AllocError);
     }
+    fill_by_threads(rt, workers, edition, words, heads, bits);
     Ok(())
 }

@@ -14,15 +14,17 @@ use std::thread::Threads;
 // With fewer words than these one thread surveys alone.
 const LONG: usize = 65_536;
 
-// With fewer objects than these in the queue one thread follows them alone: starting threads costs more.
+// With fewer objects than these in the queue one thread follows them alone: starting threads costs more. It follows an
+// object alone that has fewer than twelve times as many references.
 const WIDE: usize = 8_192;
 
 impl<'w> Survey<'w> {
     /// Like `of`, in at most so many threads, the caller among them, and 64 at most; the survey is the same, and a
     /// fault is the one of `of`. With none or one the caller surveys alone, and so it does for fewer than 65,536 words.
-    /// Threads are started while 8,192 objects or more wait to be looked at: it gains where that is often so, as in
-    /// trees, graphs and tables, and the objects lie far apart. A list is followed as by one thread; then the objects
-    /// are looked at once more, in the order of their addresses, so that takes somewhat longer than `of`.
+    /// Threads are started while 8,192 objects or more wait to be looked at, and for 98,304 references or more of one
+    /// object: it gains where that is often so, as in trees, graphs and tables, and the objects lie far apart. A list
+    /// is followed as by one thread; then the threads look at the objects once more, in the order of their addresses,
+    /// so that takes somewhat longer than `of`.
     ///
     /// While threads are at work each has a list of four bytes for each reference that leads to an object that was not
     /// met when they began. Where there is no memory for that, and where a fault is met, the caller surveys anew,

@@ -51,6 +51,28 @@ fn list(rt: &(impl Abort + AllocGlobal), objects: u64) -> Vec<u64> {
     words
 }
 
+// An object with so many references, and as many objects of two words, to which they lead at random. Each of those has
+// a reference to the first.
+fn table(rt: &(impl Abort + AllocGlobal), references: u16, seed: u64) -> Vec<u64> {
+    let mut words = Vec::new(rt.alloc());
+    let count = u64::from(references);
+    words
+        .push(Header::new(references, 0, 0).word())
+        .expect(rt, "words");
+    for k in 0..count {
+        let number = drawn(seed, k) % count.max(1);
+        let at = F.wrapping_add(count).wrapping_add(1);
+        words
+            .push(at.wrapping_add(number.wrapping_mul(2)))
+            .expect(rt, "words");
+    }
+    for _ in 0..count {
+        words.push(Header::new(1, 0, 0).word()).expect(rt, "words");
+        words.push(F).expect(rt, "words");
+    }
+    words
+}
+
 // What a survey leaves of the heap.
 fn left(rt: &(impl Abort + AllocGlobal), survey: &Survey<'_>) -> Vec<u64> {
     let live = survey.live_words() as usize;
@@ -126,6 +148,22 @@ fn a_list_is_followed_to_its_end(rt: HostRuntime) {
         for wide in [1, 2] {
             expect_same(&rt, Edition::Three, &words, &roots, workers, wide);
         }
+    }
+}
+
+// Of 400 references threads are started at 33 objects, and not at 34.
+#[test]
+fn the_references_of_one_object_are_shared_out(rt: HostRuntime) {
+    for seed in 0..3u64 {
+        let mut words = table(&rt, 400, seed);
+        for workers in [1, 2, 5] {
+            for wide in [33, 34, 8_192] {
+                expect_same(&rt, Edition::Three, &words, &[F], workers, wide);
+            }
+        }
+        let word = words.get_mut(377).expect(&rt, "a reference");
+        *word = F + 2;
+        expect_same(&rt, Edition::Three, &words, &[F], 3, 33);
     }
 }
 
