@@ -6,6 +6,8 @@ ghost use Rattle.cell_steps.specs.Starts.{IsForwardingAddress};
 ghost use Rattle.cell_steps.specs.Passes.{builds_of, did, seen, HasSeenBuilt, MayRefer, Rests};
 ghost use Rattle.page_cells.specs.CellViews.{mutators_of, page_number, setup_of, Has, IsPassOf};
 ghost use Rattle.page_cells.specs.Calls.{Grows, WroteNothing};
+ghost use Rattle.page_cells.specs.Objects.{HasFields, HasShape};
+ghost use Rattle.page_cells.specs.Objects as objects;
 ghost use Rattle.comp_access.specs.Fields.{field_address, IsFreshObject};
 ghost use Rattle.comp_access.specs.Finds.{HoldsField, IsEarly, IsFound, IsFreshField};
 ghost use Rattle.comp_access.specs.Reads.{FieldRefused, KnowsBuilt, MayBuildTouched, Reads};
@@ -95,8 +97,33 @@ pub(crate) fn find<B: Builder>(
     }
 }
 
-/// The address of a field's word in an object that an allocation made. It loads the object's header; the page is built,
-/// so this is never busy.
+/// The header of an object that an allocation made. It loads the header's word; the page is built, so this is never
+/// busy.
+#[inline(always)]
+pub(crate) fn fresh_header<B: Builder>(
+    alloc: Global,
+    cells: &Cells<B>,
+    pass: &mut Pass,
+    object: u64,
+) -> Header
+    requires of { IsPassOf cells.now pass.old × Rests pass.old }
+    requires fresh { IsFreshObject (setup_of cells.now) pass.old object }
+    ensures of { IsPassOf cells.now pass.new × Rests pass.new }
+    ensures grows { Grows pass.old pass.new × (did pass.new ≡ did pass.old) }
+    ensures builds { builds_of pass.new ≡ builds_of pass.old }
+    ensures fresh { IsFreshObject (setup_of cells.now) pass.new object }
+    ensures edition { result.edition ≡ (setup_of cells.now).heap.edition }
+    ensures shape { HasShape (setup_of cells.now) (seen pass.new) object result }
+    ensures fields { HasFields (setup_of cells.now) (seen pass.new) object result }
+    ensures ends { objects.offset_at object + size_of result ≤ 64 }
+{
+    match load(alloc, cells, pass, page_at(object), offset_at(object)) {
+        Ok(word) => Header::from_word_of(cells.edition(), word),
+        Err(_) => unreachable!(),
+    }
+}
+
+/// The address of a field's word in an object that an allocation made. It loads the object's header.
 #[inline(always)]
 pub(crate) fn fresh_field<B: Builder>(
     alloc: Global,
@@ -113,17 +140,8 @@ pub(crate) fn fresh_field<B: Builder>(
     ensures refused { IfErr result (FieldRefused (setup_of cells.now) pass.old pass.new name.kind name.object name.field) }
     ensures early { IfErr result IsEarly }
 {
-    let word = match load(
-        alloc,
-        cells,
-        pass,
-        page_at(name.object),
-        offset_at(name.object),
-    ) {
-        Ok(word) => word,
-        Err(_) => unreachable!(),
-    };
-    match address_of_field(Header::from_word_of(cells.edition(), word), name) {
+    let header = fresh_header(alloc, cells, pass, name.object);
+    match address_of_field(header, name) {
         Some(address) => Ok(address),
         None => Err(Refusal::NoSuchField),
     }

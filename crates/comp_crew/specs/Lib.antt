@@ -7,6 +7,7 @@ pub use Rattle.comp_access.specs.Copies
 pub use Rattle.comp_access.specs.Fields
 pub use Rattle.comp_access.specs.Reads
 pub use Rattle.comp_access.specs.ReadCalls
+pub use Rattle.comp_access.specs.HeaderCalls
 pub use Rattle.comp_access.specs.Writes
 pub use Rattle.comp_access.specs.WriteCalls
 pub use Rattle.comp_access.specs.declared.pages.Touched

@@ -1,8 +1,9 @@
-//! Reads and writes of fields. None of them waits or retries: the answer is `Busy` if another member won a
-//! compare-and-swap. A refused call wrote no entry; but it may have built its page.
+//! Reads and writes of fields, and reads of headers. None of them waits or retries: the answer is `Busy` if another
+//! member won a compare-and-swap. A refused call wrote no entry; but it may have built its page.
 ghost use Rattle.std.specs.Prelude.{◌≡◌, true};
 ghost use Rattle.heap_layout.specs.Kinds.{refers};
 ghost use Rattle.heap_layout.specs.declared.kind.Kind.TheVariants as kinds;
+ghost use Rattle.comp_access.specs.HeaderCalls.{IsHeaderRead};
 ghost use Rattle.comp_access.specs.ReadCalls.{IsRead};
 ghost use Rattle.comp_access.specs.WriteCalls.{IsWrite};
 ghost use Rattle.comp_crew.specs.Members.{crew_of, made_of, pass_of, setup_of, IsMember};
@@ -50,6 +51,18 @@ impl Member {
     {
         let Member { crew, hand } = self;
         hand.try_read_data_at(alloc, &crew.cells, object, field)
+    }
+
+    /// Answers the header word of an object that the mutator knows. It builds no page, and is never busy.
+    pub fn try_header(&mut self, alloc: Global, object: u64) -> Result<u64, Refusal>
+        requires { IsMember self.old }
+        ensures of { IsMember self.new }
+        ensures crew { crew_of self.new ≡ crew_of self.old }
+        ensures made { made_of self.new ≡ made_of self.old }
+        ensures header { IsHeaderRead (setup_of self.old) (pass_of self.old) (pass_of self.new) object result }
+    {
+        let Member { crew, hand } = self;
+        hand.try_header(alloc, &crew.cells, object)
     }
 
     /// Writes `value` into a field of a kind that refers, and answers the stamp of the entry. The value must be null or

@@ -1,8 +1,9 @@
-//! Reads of fields.
+//! Reads of fields and of headers.
 ghost use Rattle.std.specs.Prelude.{◌≡◌, true};
 ghost use Rattle.heap_layout.specs.Kinds.{refers};
 ghost use Rattle.heap_layout.specs.declared.kind.Kind.TheVariants as kinds;
 ghost use Rattle.page_cells.specs.CellViews.{setup_of};
+ghost use Rattle.comp_access.specs.HeaderCalls.{IsHeaderRead};
 ghost use Rattle.comp_access.specs.ReadCalls.{IsRead};
 ghost use Rattle.comp_hand.specs.Hands.{made_of, pass_of, IsHandOf};
 
@@ -61,5 +62,26 @@ impl Hand {
             made: _,
         } = self;
         comp_access::try_read_data(alloc, cells, pass, object, field)
+    }
+
+    /// Answers the header word of an object that the mutator knows. It builds no page. Requires the cells of this hand.
+    pub fn try_header<B: Builder>(
+        &mut self,
+        alloc: Global,
+        cells: &Cells<B>,
+        object: u64,
+    ) -> Result<u64, Refusal>
+        requires { IsHandOf cells.now self.old }
+        ensures of { IsHandOf cells.now self.new }
+        ensures made { made_of self.new ≡ made_of self.old }
+        ensures header { IsHeaderRead (setup_of cells.now) (pass_of self.old) (pass_of self.new) object result }
+    {
+        let Hand {
+            pass,
+            fills: _,
+            lows: _,
+            made: _,
+        } = self;
+        comp_access::try_header(alloc, cells, pass, object)
     }
 }
