@@ -1,5 +1,6 @@
-"""Compares compressor.h with the exports of compressor_c, and with what comp_handle answers: the same names, parameters
-(each handle of its kind) and results; structs with the same fields; the same statuses, kinds, limits and version.
+"""Compares compressor.h with the exports of compressor_c, as shell.c calls them, and with what comp_handle answers: the
+same names, parameters (each handle of its kind) and results; structs with the same fields; the same statuses, kinds,
+limits and version. Of shell.c it sees that each function hands on its own arguments, in their order.
 
 usage: header.py CRATES
 """
@@ -86,11 +87,45 @@ def exported(text):
                 own, kind = it.strip().rstrip(",").split(": ", 1)
                 if kind == "&mut Handle":
                     # It has the name of its kind; the other one of a call has the kind of what the call acts on.
-                    kinds.append(f"compressor_{name.split('_')[1] if own == 'other' else own} *")
+                    acts_on = name.replace("compressor_c_", "compressor_").split("_")[1]
+                    kinds.append(f"compressor_{acts_on if own == 'other' else own} *")
                 elif kind != "Global":
                     kinds += TYPES[kind]
         found[name] = [RESULTS[result or None], *kinds]
     return found
+
+
+def handed_on(given):
+    """The arguments with which the shell calls for these parameters, without spaces."""
+    kinds = [re.fullmatch(r"(.*?)(\w+)", it).groups() for it in re.split(r",\s*", " ".join(given.split()))]
+    words = []
+    for (kind, own), (after, count) in zip(kinds, [*kinds[1:], ("", "")]):
+        if kind.endswith("*") and after == "size_t ":
+            own = f"{'IN' if kind.startswith('const') else 'OUT'}({own},{count})"
+        words.append(own)
+    return f"({','.join(words)})"
+
+
+def through(exports, shell):
+    """The exports as programs see them through the shell: those that it calls by the names of its own functions. The
+    name of a crew is the shell's. And what is wrong: an export is called if it takes an array, or such a name."""
+    called = set(re.findall(r"^CALL\((\w+),", shell, flags=re.M)) | set(re.findall(r"return compressor_c_(plan_flip)\(", shell))
+    found, wrong = {}, []
+    for own, given, handed in re.findall(r"^CALL\((\w+),\s*\(([^)]*)\),\s*(.*?)\)\n(?=CALL|\n)", shell, flags=re.M | re.S):
+        if "".join(handed.split()) != handed_on(given):
+            wrong.append(f"compressor_{own}: the shell hands on {' '.join(handed.split())}")
+    for name, kinds in exports.items():
+        own = name.removeprefix("compressor_c_")
+        inner = own != name
+        if inner != (own in called):
+            wrong.append(f"{name}: the shell calls it, or it is named so, and not both")
+        if inner != ("size_t" in kinds or own == "plan_flip"):
+            wrong.append(f"{name}: an array goes through the shell, and nothing else")
+        if own == "plan_flip":
+            kinds = kinds[:2] + kinds[3:]
+        found["compressor_" + own if inner else name] = kinds
+    wrong += [f"{own}: there is no such export" for own in sorted(called) if f"compressor_c_{own}" not in exports]
+    return found, wrong
 
 
 def declared(text):
@@ -140,7 +175,9 @@ def compare(crates):
     text = bare(raw)
     exports = "".join(it.read_text() for it in sorted((crates / "compressor_c/src").glob("*.rt")))
     answers = "".join(it.read_text() for it in sorted((crates / "comp_handle/src").glob("*.rt")))
-    header, given = declared(text), exported(exports)
+    header = declared(text)
+    given, wrong = through(exported(exports), bare((crates / "compressor_c/shell/shell.c").read_text()))
+    yield from wrong
     for name in sorted({*header, *given}):
         if header.get(name) != given.get(name):
             yield f"{name}: the header has {header.get(name)}, the exports have {given.get(name)}"

@@ -128,7 +128,7 @@ static int run_once(const char *name, const struct asked *asked, struct done *do
     int known;
     make_heap(&heap, asked);
     value_of("compressor_heap_plan", compressor_heap_plan(&heap, &plan));
-    value_of("compressor_plan_flip", compressor_plan_flip(&plan, 1, 1, fresh_pages(asked), &crew));
+    value_of("compressor_plan_flip", compressor_plan_flip(&plan, 1, fresh_pages(asked), &crew));
     value_of("compressor_crew_take", compressor_crew_take(&crew, &m));
     value_of("compressor_mutator_facts_of", compressor_mutator_facts_of(&m, &facts));
     for (p = 0; p < facts.pages; p++) value_of("compressor_mutator_touch", compressor_mutator_touch(&m, p));

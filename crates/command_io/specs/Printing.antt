@@ -43,7 +43,7 @@ help_lines text = trim_end text ++ 10 ∷ []
 
 -- the program's name and version as they are printed, with a line feed
 abbrev pub version_line : List ℕ
-version_line = codes "compressor 0.1.0" ++ 10 ∷ []
+version_line = codes "compressor 1.0.0" ++ 10 ∷ []
 
 -- a call answers `CannotPrint` if and only if one more call of the output failed
 abbrev pub CountsPrint : {T : Type 0} → ℕ → ℕ → Result T CommandRefusal → Type 0

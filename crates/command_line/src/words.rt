@@ -109,10 +109,10 @@ pub struct TraceRun<'a> {
 }
 
 /// The program's name and version, as a line.
-pub const VERSION_LINE: &str = "compressor 0.1.0\n";
+pub const VERSION_LINE: &str = "compressor 1.0.0\n";
 
 // The version, as defined for clap. The line is the program's own, since nothing is promised of clap's text.
-const VERSION: &str = "0.1.0";
+const VERSION: &str = "1.0.0";
 
 /// Reads the words after the program's name, and answers the task that they ask for. It fails if they ask for none, or
 /// if memory runs out.

@@ -7,6 +7,7 @@ use Rattle.comp_crew.specs.Allocations.{Allocates, AllocationRefused}
 use Rattle.comp_crew.specs.Calls.{Grows, WroteNothing}
 use Rattle.comp_crew.specs.Copies.{builds_after, PageRefused}
 use Rattle.comp_crew.specs.Forwarded.{AreForwarded}
+use Rattle.comp_crew.specs.HeaderCalls.{IsHeaderRead}
 use Rattle.comp_crew.specs.Members.{crew_of, made_of, pass_of, setup_of}
 use Rattle.comp_crew.specs.Passes.{builds_of, did, lost, HasSeenBuilt}
 use Rattle.comp_crew.specs.ReadCalls.{IsRead}
@@ -22,7 +23,7 @@ use Rattle.comp_handle.specs.Answers.{bare, done, of_refusal, IsAnswer, IsPlace}
 use Rattle.comp_handle.specs.Kinds.{mutator_in, Asks}
 use Rattle.comp_handle.specs.declared.answer.Answer.{Answer}
 use Rattle.comp_handle.specs.declared.calling.Call.{Call}
-use Rattle.comp_handle.specs.declared.calling.Call.TheVariants.{ReadRef, ReadWeak, ReadData, WriteRef, WriteWeak, WriteData, Alloc, Touch, Root, Build}
+use Rattle.comp_handle.specs.declared.calling.Call.TheVariants.{ReadRef, ReadWeak, ReadData, Header, WriteRef, WriteWeak, WriteData, Alloc, Touch, Root, Build}
 use Rattle.comp_handle.specs.declared.kept.Kept.{Kept}
 use Rattle.comp_handle.specs.declared.kept.Kept.TheVariants.{Mutator}
 
@@ -35,6 +36,12 @@ pub record ReadsField (kind : Kind) (object field : ℕ) (m n : Member) (r : Res
   pub crew : crew_of n ≡ crew_of m
   pub made : made_of n ≡ made_of m
   pub read : IsRead (setup_of m) (pass_of m) (pass_of n) kind object field r
+
+-- a read of an object's header
+pub record ReadsHeader (object : ℕ) (m n : Member) (r : Result ℕ Refusal) : Type 0 where
+  pub crew : crew_of n ≡ crew_of m
+  pub made : made_of n ≡ made_of m
+  pub header : IsHeaderRead (setup_of m) (pass_of m) (pass_of n) object r
 
 -- a write into a field of this kind
 pub record WritesField (kind : Kind) (object field value : ℕ) (m n : Member) (r : Result ℕ Refusal) : Type 0 where
@@ -91,7 +98,7 @@ IsRoot i m a =
     (roots : List ℕ) × AreForwarded (setup_of m).heap roots
     × (((i < length roots) × (a ≡ done (slice_index roots i))) ⊎ ((length roots ≤ i) × (a ≡ bare 13 i)))
 
--- the call answered as a call that did this; n is the field that was asked for, or the size of the object
+-- the call answered as a call that did this; n is the field that was asked for, or the size of the object, or 0
 abbrev pub Answers : ℕ → (Result ℕ Refusal → Type 0) → Answer → Type 0
 Answers n P a = (r : Result ℕ Refusal) × IsAnswer n r a × P r
 
@@ -100,6 +107,7 @@ abbrev pub Does : Call → Member → Member → Answer → Type 0
 Does (ReadRef object field) m n a = Answers field (ReadsField kinds.Reference object field m n) a
 Does (ReadWeak object field) m n a = Answers field (ReadsField kinds.Weak object field m n) a
 Does (ReadData object field) m n a = Answers field (ReadsField kinds.Data object field m n) a
+Does (Header object) m n a = Answers 0 (ReadsHeader object m n) a
 Does (WriteRef object field value) m n a = Answers field (WritesField kinds.Reference object field value m n) a
 Does (WriteWeak object field value) m n a = Answers field (WritesField kinds.Weak object field value m n) a
 Does (WriteData object field value) m n a = Answers field (WritesField kinds.Data object field value m n) a

@@ -1,5 +1,5 @@
 -- A heap at rest, in memory of the caller: collections, surveys, and what is done by a survey.
-use Rattle.std.specs.Prelude.{◌≡◌, ◌≢◌, ℕ, ◌<◌, ◌⊎◌, Bool, true, false, IsFalse, IsTrue, List, All, drop, length, map, slice_index, take, Option, None, Some}
+use Rattle.std.specs.Prelude.{◌≡◌, ◌≢◌, ℕ, ◌-◌, ◌<◌, ◌==◌, ◌⊎◌, Bool, true, false, IsFalse, IsTrue, List, All, count_by, drop, length, map, slice_index, take, Option, None, Some}
 use Rattle.heap_layout.specs.Heap.{is_value, IsValue}
 use Rattle.heap_layout.specs.Versions.{version_of}
 use Rattle.heap_layout.specs.declared.edition.Edition.{Edition}
@@ -122,6 +122,10 @@ ForwardsRoots before after found a =
     ((a ≡ done 0) × All (IsValue found.edition found.marks) before × (after ≡ map (led_by found) before))
     ⊎ ((after ≡ before) × ((k : ℕ) × (a ≡ bare 38 k) × IsFirstStray found before k))
 
--- the weak words lead to where their objects are after the collection, or nowhere
+-- how many of these words are null
+abbrev pub nulls : List ℕ → ℕ
+nulls words = count_by (λ word. word == 0) words
+
+-- the weak words lead to where their objects are after the collection, or nowhere; the answer has how many became null
 abbrev pub ForwardsWeak : List ℕ → List ℕ → Found → Answer → Type 0
-ForwardsWeak before after found a = (a ≡ done 0) × (after ≡ map (led_by found) before)
+ForwardsWeak before after found a = (a ≡ done (nulls after - nulls before)) × (after ≡ map (led_by found) before)

@@ -20,6 +20,8 @@ pub enum Call {
     ReadWeak(u64, u32),
     /// Reads a data field: the object, and the field's index.
     ReadData(u64, u32),
+    /// Reads the header of an object.
+    Header(u64),
     /// Writes a reference field: the object, the field's index and the value.
     WriteRef(u64, u32, u64),
     /// Writes a weak field: the object, the field's index and the value.
@@ -98,6 +100,7 @@ fn perform(alloc: Global, m: &mut Member, call: Call) -> Answer
         Call::ReadData(object, field) => {
             Answer::of(field, m.try_read_data_at(alloc, object, field))
         }
+        Call::Header(object) => Answer::of(0, m.try_header(alloc, object)),
         Call::WriteRef(object, field, value) => {
             Answer::of(
                 field,

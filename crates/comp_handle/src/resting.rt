@@ -2,7 +2,7 @@
 ghost use Rattle.std.specs.Prelude.{◌≡◌, ◌⊎◌, ◌+◌, ◌/◌, None, Some, length, IfErr, IfOk, IsFalse, IsTrue};
 ghost use Rattle.comp_handle.specs.Answers.{bare};
 ghost use Rattle.comp_handle.specs.Kinds.{survey_in, Asks};
-ghost use Rattle.comp_handle.specs.Resting.{asked, Collects, CollectsIn, CollectsInPlace, CollectsWithin, CountsSurvey, ForwardsRoots, ForwardsWeak, IsTakenOf, IsUnsharedIn, Shares, Slides, Surveys, SurveysByMarks, SurveysByRoots, TakesMarks};
+ghost use Rattle.comp_handle.specs.Resting.{asked, nulls, Collects, CollectsIn, CollectsInPlace, CollectsWithin, CountsSurvey, ForwardsRoots, ForwardsWeak, IsTakenOf, IsUnsharedIn, Shares, Slides, Surveys, SurveysByMarks, SurveysByRoots, TakesMarks};
 ghost use Rattle.mark_job.specs.Asked.{IsMarkedOf};
 ghost use Rattle.stopped_heap.specs.Marks.{IsMarksFaultOf};
 ghost use Rattle.stopped_heap.specs.Reached.{IsFaultOf};
@@ -355,16 +355,30 @@ pub fn forward_survey(alloc: Global, h: &mut Handle, roots: &mut [u64]) -> Answe
     answer
 }
 
+// How many of these words are null.
+fn count_nulls(words: &[u64]) -> u64
+    ensures { result ≡ nulls words.now }
+{
+    let mut count = 0;
+    for k in 0..words.len() {
+        if words[k] == 0 {
+            count += 1;
+        }
+    }
+    count
+}
+
 // Forwards weak words by a survey.
 fn forward_lost(places: &Arc<Places>, words: &mut [u64]) -> Answer
     ensures { ForwardsWeak words.old words.new places.now.value result }
 {
+    let before = count_nulls(words);
     (&**places).forward_weak(words);
-    Answer::done(0)
+    Answer::done(count_nulls(words).saturating_sub(before))
 }
 
 /// Makes these weak words, of tables of the caller's own, lead to where their objects are after the collection, by the
-/// survey that a handle keeps. One that leads to no live object becomes null.
+/// survey that a handle keeps. One that leads to no live object becomes null; answers how many became so.
 pub fn forward_weak(alloc: Global, h: &mut Handle, words: &mut [u64]) -> Answer
     ensures same { h.new.kept ≡ h.old.kept }
     ensures forwards { Asks 0 survey_in (ForwardsWeak words.old words.new) (words.new ≡ words.old) h.old.kept result }

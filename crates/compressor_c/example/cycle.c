@@ -286,14 +286,14 @@ static void check_stamps(compressor_end *end) {
 
 /* A cycle by one mutator: the list is read from this root, and these words are live at the end. The next heap goes in,
    and the finished one comes out. */
-static void read_list(compressor_heap *heap, uint64_t name, uint64_t root, uint64_t live, compressor_end *end) {
+static void read_list(compressor_heap *heap, uint64_t root, uint64_t live, compressor_end *end) {
     compressor_plan plan = COMPRESSOR_EMPTY;
     compressor_crew crew = COMPRESSOR_EMPTY;
     compressor_mutator m = COMPRESSOR_EMPTY;
     compressor_mutator_facts facts;
     uint64_t i = 0, at;
     DO(compressor_heap_plan(heap, &plan));
-    DO(compressor_plan_flip(&plan, name, 1, 0, &crew));
+    DO(compressor_plan_flip(&plan, 1, 0, &crew));
     DO(compressor_crew_take(&crew, &m));
     compressor_plan_drop(&plan);
     GET(at, compressor_mutator_root(&m, root));
@@ -312,7 +312,7 @@ static void read_list(compressor_heap *heap, uint64_t name, uint64_t root, uint6
    last one leads to itself. */
 static void large(void) {
     size_t count = 2 + 1 + MANY;
-    uint64_t *words = (uint64_t *)zeros(count, sizeof *words), at;
+    uint64_t *words = (uint64_t *)zeros(count, sizeof *words), at, made;
     const compressor_shape many = {MANY, 0, 0, 0}, weak = {0, 1, 0, 0}, much = {0, 65535, 0, 0};
     uint64_t header = 0;
     words[0] = header_of(0, 1, 0);
@@ -329,7 +329,7 @@ static void large(void) {
     DO(compressor_heap_by_roots(3, words, count, roots, 1, &heap));
     free(words);
     DO(compressor_heap_plan(&heap, &plan));
-    DO(compressor_plan_flip(&plan, 5, 1, 5000, &crew));
+    DO(compressor_plan_flip(&plan, 1, 5000, &crew));
     DO(compressor_crew_take(&crew, &m));
     GET(at, compressor_mutator_root(&m, 0));
     IS(at == TO_SPACE);
@@ -342,7 +342,10 @@ static void large(void) {
     IS(compressor_shape_header(3, much, &header));
     ANSWERS(compressor_mutator_alloc(&m, header), COMPRESSOR_OBJECT_TOO_LARGE, 65536);
     IS(compressor_shape_header(3, weak, &header));
-    DO(compressor_mutator_alloc(&m, header));
+    GET(made, compressor_mutator_alloc(&m, header));
+    ANSWERS(compressor_mutator_header(&m, made), COMPRESSOR_DONE, header);
+    GET(header, compressor_mutator_header(&m, at));
+    IS(compressor_shape_of(3, header).refs == MANY);
     DO(compressor_crew_give(&crew, &m));
     ANSWERS(compressor_crew_finish(&crew, &end), COMPRESSOR_DONE, 1 + MANY + 2);
     DO(compressor_end_next_by_roots(&end, &at, 1, &heap));
@@ -362,12 +365,12 @@ int main(void) {
     make_heap(&heap);
     DO(compressor_heap_plan(&heap, &plan));
     ANSWERS(compressor_heap_plan(&heap, &plan), COMPRESSOR_EMPTY_HANDLE, 0);
-    ANSWERS(compressor_plan_flip(&plan, 1, 65, 16, &crew), COMPRESSOR_BAD_MUTATORS, 65);
-    ANSWERS(compressor_plan_flip(&plan, 1, 257, 16, &crew), COMPRESSOR_BAD_MUTATORS, 257);
-    ANSWERS(compressor_plan_flip(&plan, 1, 1, 4097, &crew), COMPRESSOR_TOO_MANY_PAGES, 4096);
-    ANSWERS(compressor_plan_flip(&plan, 1, THREADS, 16, &crew), COMPRESSOR_DONE, THREADS);
-    ANSWERS(compressor_plan_flip(&plan, 2, 1, 0, &crew), COMPRESSOR_NOT_EMPTY, 1);
-    ANSWERS(compressor_plan_flip(&plan, 2, 1, 0, &other), COMPRESSOR_DONE, 1);
+    ANSWERS(compressor_plan_flip(&plan, 65, 16, &crew), COMPRESSOR_BAD_MUTATORS, 65);
+    ANSWERS(compressor_plan_flip(&plan, 257, 16, &crew), COMPRESSOR_BAD_MUTATORS, 257);
+    ANSWERS(compressor_plan_flip(&plan, 1, 4097, &crew), COMPRESSOR_TOO_MANY_PAGES, 4096);
+    ANSWERS(compressor_plan_flip(&plan, THREADS, 16, &crew), COMPRESSOR_DONE, THREADS);
+    ANSWERS(compressor_plan_flip(&plan, 1, 0, &crew), COMPRESSOR_NOT_EMPTY, 1);
+    ANSWERS(compressor_plan_flip(&plan, 1, 0, &other), COMPRESSOR_DONE, 1);
     compressor_plan_drop(&plan);
 
     /* the first cycle, by four threads */
@@ -397,7 +400,7 @@ int main(void) {
     ANSWERS(compressor_end_next_by_marks(&end, kept, n, astray, 1, &heap), COMPRESSOR_BAD_ROOT, 0);
     DO(compressor_end_next_by_marks(&end, kept, n, roots, 1 + THREADS, &heap));
     free(kept);
-    read_list(&heap, 3, 0, live, &end);
+    read_list(&heap, 0, live, &end);
 
     /* the third cycle: its roots reach only the list; the anchors and what was made are dropped */
     uint64_t list[3] = {0, 0, TO_SPACE + 1};
@@ -405,7 +408,7 @@ int main(void) {
     list[1] = roots[0];
     ANSWERS(compressor_end_next_by_roots(&end, list, 3, &heap), COMPRESSOR_BAD_ROOT, 2);
     DO(compressor_end_next_by_roots(&end, list, 2, &heap));
-    read_list(&heap, 4, 1, 3ull * LIVE, &end);
+    read_list(&heap, 1, 3ull * LIVE, &end);
     compressor_end_drop(&end);
     large();
     printf("three cycles: %llu live words, %llu pages built by %d threads in the sweep of the first\n",

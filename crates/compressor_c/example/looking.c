@@ -93,10 +93,8 @@ static void images(compressor_heap *heap, compressor_heap *again) {
     ANSWERS(compressor_heap_read(bytes, IMAGE, again), COMPRESSOR_NOT_EMPTY, 0);
     ANSWERS(compressor_heap_write(again, bytes, 1), COMPRESSOR_TOO_SHORT, IMAGE);
 
-    const uint64_t none[1] = {0};
-    const uint32_t unmarked[1] = {0};
     compressor_heap large = COMPRESSOR_EMPTY;
-    ANSWERS(compressor_heap_by_marks(4, none, 0, unmarked, 0, none, 0, &large), COMPRESSOR_DONE, 0);
+    ANSWERS(compressor_heap_by_marks(4, NULL, 0, NULL, 0, NULL, 0, &large), COMPRESSOR_DONE, 0);
     ANSWERS(compressor_heap_write(&large, bytes, sizeof bytes), COMPRESSOR_DONE, 24);
     IS(bytes[8] == 4);
     compressor_heap_drop(&large);
@@ -185,6 +183,21 @@ static void did(compressor_mutator *m, uint64_t builds, uint64_t entries, uint64
     is(facts.edition == 1 && facts.mutators == 2 && facts.number < 2, line);
 }
 
+/* The headers of an object that slid, and of one that the first mutator made. */
+static void headers(compressor_mutator *m, compressor_mutator *n, uint64_t slid, uint64_t made) {
+    compressor_shape shape;
+    uint64_t header;
+    ANSWERS(compressor_mutator_header(m, slid), COMPRESSOR_DONE, header_of(1, 1, 0));
+    ANSWERS(compressor_mutator_header(n, slid), COMPRESSOR_DONE, header_of(1, 1, 0));
+    INTO(header, compressor_mutator_header(m, made));
+    shape = compressor_shape_of(1, header);
+    IS(shape.refs == 1 && shape.weak == 0 && shape.data == 1 && shape.tag == 5 && header == header_of(1, 1, 5));
+    ANSWERS(compressor_mutator_header(m, 0), COMPRESSOR_NULL_OBJECT, 0);
+    ANSWERS(compressor_mutator_header(m, slid + 1), COMPRESSOR_NOT_A_START, slid + 1);
+    ANSWERS(compressor_mutator_header(m, made + 3), COMPRESSOR_NOT_A_START, made + 3);
+    ANSWERS(compressor_mutator_header(m, FROM_SPACE), COMPRESSOR_NOT_A_START, FROM_SPACE);
+}
+
 /* What two mutators do and see, one after the other. Answers the page of the object that the first one makes. */
 static uint64_t go_on(compressor_mutator *m, compressor_mutator *n, uint64_t roots[3]) {
     uint64_t page[64], made, value;
@@ -193,8 +206,9 @@ static uint64_t go_on(compressor_mutator *m, compressor_mutator *n, uint64_t roo
     IS(roots[0] == 1);
     ANSWERS(compressor_mutator_roots(m, roots, 3), COMPRESSOR_DONE, 2);
     IS(roots[0] == TO_SPACE && roots[1] == TO_SPACE + 3 && roots[2] == 1);
+    ANSWERS(compressor_mutator_header(m, roots[1]), COMPRESSOR_DONE, header_of(1, 1, 0));
 
-    did(m, 0, 0, 0, __LINE__);
+    did(m, 0, 0, 0, __LINE__); /* a header needs no page */
     ANSWERS(compressor_mutator_touch(m, 0), COMPRESSOR_DONE, 1);
     did(m, 1, 0, 0, __LINE__);
     ANSWERS(compressor_mutator_build(m, 0), COMPRESSOR_DONE, 0);
@@ -204,6 +218,7 @@ static uint64_t go_on(compressor_mutator *m, compressor_mutator *n, uint64_t roo
     INTO(value, compressor_mutator_write_data(m, roots[0], 0, 70));
     IS(value == 0);
     INTO(made, compressor_mutator_alloc(m, header_of(1, 1, 5)));
+    headers(m, n, roots[1], made);
     did(m, 2, 2, 3, __LINE__);
     did(n, 0, 0, 0, __LINE__);
 
@@ -292,8 +307,8 @@ static void idle(compressor_plan *plan) {
     compressor_end end = COMPRESSOR_EMPTY;
     uint64_t size;
     uint8_t bytes[1000];
-    ANSWERS(compressor_plan_flip(plan, 2, 1, 4097, &crew), COMPRESSOR_TOO_MANY_PAGES, 4096);
-    ANSWERS(compressor_plan_flip(plan, 2, 1, 2, &crew), COMPRESSOR_DONE, 1);
+    ANSWERS(compressor_plan_flip(plan, 1, 4097, &crew), COMPRESSOR_TOO_MANY_PAGES, 4096);
+    ANSWERS(compressor_plan_flip(plan, 1, 2, &crew), COMPRESSOR_DONE, 1);
     ANSWERS(compressor_crew_finish(&crew, &end), COMPRESSOR_DONE, 6);
     INTO(size, compressor_end_write(&end, bytes, sizeof bytes));
     ANSWERS(compressor_plan_audit(plan, bytes, size, 0), COMPRESSOR_DONE, 6);
@@ -364,7 +379,7 @@ int main(void) {
     ANSWERS(compressor_heap_write(&again, (uint8_t *)roots, 0), COMPRESSOR_EMPTY_HANDLE, 0);
     ANSWERS(compressor_heap_plan(&heap, &plan), COMPRESSOR_NOT_EMPTY, 1);
     idle(&share);
-    ANSWERS(compressor_plan_flip(&plan, 1, 2, 2, &crew), COMPRESSOR_DONE, 2);
+    ANSWERS(compressor_plan_flip(&plan, 2, 2, &crew), COMPRESSOR_DONE, 2);
     compressor_plan_drop(&plan);
     INTO(first, compressor_crew_take(&crew, &m));
     ANSWERS(compressor_crew_take(&crew, &n), COMPRESSOR_DONE, 1 - first);

@@ -1,8 +1,8 @@
 /* compressor.h: a compacting garbage collector for runtimes in C, C++ and unverified Rust. There are two ways to use
    it. A flipped heap: threads go on while their heap is compacted, and read, write and allocate by calls of a mutator.
    A heap at rest: it lies in memory of the runtime's, which reads, writes and allocates there with no call
-   (compressor_rest.h), and stands still for a collection. docs/C.md is the guide; here is the manual of each call. Link
-   out/libcompressor_c.a of this crate, and the kit's c/liblibc_c.a, which calls malloc, realloc and free.
+   (compressor_rest.h), and stands still for a collection. docs/C.md is the guide; here is the manual of each call. The
+   library calls malloc, realloc and free, and nothing else.
 
    Handles. Each kind of thing has a struct of its own: heap, plan, crew, mutator, end; survey, tables, job. A handle is
    empty or keeps one thing. Begin with COMPRESSOR_EMPTY, or with zero bytes. Only calls write to a handle. It may be
@@ -10,10 +10,10 @@
    goes into an empty handle; a drop alone frees what a handle keeps. Where a call says that something goes, its handle
    is empty then.
 
-   Arrays. No pointer is null, not even that of an array of length 0. Elements are aligned as their type. No array
-   overlaps another one, or a handle, of the same call. While a call runs, nobody writes to what it reads, or uses what
-   it writes. No call keeps a pointer of the caller's. Of a call that fills a buffer, what lies behind the count of the
-   answer stays.
+   Arrays. The pointer of an array of length 0 may be null, and no other one. Elements are aligned as their type. No
+   array overlaps another one, or a handle, of the same call. While a call runs, nobody writes to what it reads, or uses
+   what it writes. No call keeps a pointer of the caller's. Of a call that fills a buffer, what lies behind the count of
+   the answer stays.
 
    Threads. Each handle is used by one call at a time, reads included; from one thread to the next by a lock, the start
    or join of a thread, or a seq_cst atomic. What is often asked is copied into plain structs (.._facts), which anybody
@@ -40,11 +40,11 @@
 #include <stddef.h>
 #include <stdint.h>
 
-/* The version of this header. Before 1.0.0 each of them may change all calls. */
-#define COMPRESSOR_VERSION_MAJOR 0
-#define COMPRESSOR_VERSION_MINOR 1
+/* The version of this header. A new first number may change all calls. */
+#define COMPRESSOR_VERSION_MAJOR 1
+#define COMPRESSOR_VERSION_MINOR 0
 #define COMPRESSOR_VERSION_PATCH 0
-#define COMPRESSOR_VERSION_TEXT "0.1.0"
+#define COMPRESSOR_VERSION_TEXT "1.0.0"
 #define COMPRESSOR_VERSION \
     (COMPRESSOR_VERSION_MAJOR * 1000000u + COMPRESSOR_VERSION_MINOR * 1000u + COMPRESSOR_VERSION_PATCH)
 
@@ -294,6 +294,15 @@ static inline int compressor_shape_header(uint32_t edition, compressor_shape s, 
     return 1;
 }
 
+/* Constant expressions, for editions three and four. The header word of counts below 65,536 and a tag below 16,384; the
+   tag of any header word; the word with another tag. */
+#define COMPRESSOR_HEADER(refs, weak, data, tag)                                                        \
+    (COMPRESSOR_AS_(uint64_t, refs) | COMPRESSOR_AS_(uint64_t, data) << 16 | COMPRESSOR_AS_(uint64_t, weak) << 32 | \
+     COMPRESSOR_AS_(uint64_t, tag) << 48)
+#define COMPRESSOR_TAG_OF(header) COMPRESSOR_AS_(uint32_t, (header) >> 48 & 0x3fffu)
+#define COMPRESSOR_WITH_TAG(header, tag) \
+    (((header) & ~(UINT64_C(0x3fff) << 48)) | COMPRESSOR_AS_(uint64_t, tag) << 48)
+
 /* The name of a status, as "JOURNAL_FULL". */
 static inline const char *compressor_status_text(uint32_t status) {
     switch (status) {
@@ -367,20 +376,23 @@ static inline const char *compressor_status_text(uint32_t status) {
     }
 }
 
-/* The version of the archive: COMPRESSOR_VERSION of the header with which it was made. From 1.0.0 on a program may be
-   linked with any version that has the major number of the header for which it was compiled, and that is not lower. */
+/* The version of the archive: COMPRESSOR_VERSION of the header with which it was made. A program may be linked with any
+   version that has the first number of the header for which it was compiled, and that is not lower. */
 uint32_t compressor_version(void);
 
 /* THE HEAP AT REST */
 
 /* Its words are from-space (docs/FORMATS.md), in memory of the caller. Only objects that are reached, or marked, are
-   looked at; what lies between them may be anything. All threads of the runtime stand still, or touch nothing of it,
-   from the survey to the last slide. A root that is not handed in is lost, and one that is forwarded twice may be that
-   of another object. */
+   looked at; what lies between them may be anything. A header word is any word whose object fits: one shape may have
+   several, and they slide as they are. Objects keep their order. So one before which nothing dies keeps its address.
+   All threads of the runtime stand still, or touch nothing of it, from the survey to the last slide. A root that is not
+   handed in is lost, and one that is forwarded twice may be that of another object. Of a refusal that names a word the
+   value is words[index]; compressor_object_around of compressor_rest.h has its object. */
 
 /* The whole collection: slides what the roots reach into `to`, from its first word on, and makes the roots lead there.
    Answers the live words; those of `to` behind them stay. in_place: the same down to the first of the words, with no
-   second memory. Tables take two bits a word, 4 bytes for each 64 words, and 4 for each object that is reached.
+   second memory. A weak table, as for finalizers, is an object of weak words that is a root: each becomes null where its
+   object dies. Tables take two bits a word, 4 bytes for each 64 words, and 4 for each object that is reached.
    Refusals, after which all is as it was: BAD_EDITION; TOO_LARGE; memory, or a fault that is there: BAD_ROOT,
    BAD_REFERENCE, BAD_WEAK, OBJECT_TOO_LONG, OBJECT_PAST_END or OVERLAP; TOO_SHORT (the live words). */
 compressor_answer compressor_collect(uint32_t edition, const uint64_t *words, size_t word_count, uint64_t *roots,
@@ -414,7 +426,7 @@ compressor_answer compressor_survey_slide(compressor_survey *survey, const uint6
 
 /* Make these lead to where their objects are after the collection, each once: null and immediates stay. Take no memory.
    forward: BAD_ROOT, the first one that leads to no live object, and all are as they were. forward_weak: such a one
-   becomes null; for weak words in tables of the caller's own. */
+   becomes null; for weak words in tables of the caller's own. Answers how many became so. */
 compressor_answer compressor_survey_forward(compressor_survey *survey, uint64_t *roots, size_t root_count);
 compressor_answer compressor_survey_forward_weak(compressor_survey *survey, uint64_t *words, size_t word_count);
 void compressor_survey_drop(compressor_survey *survey);
@@ -503,10 +515,9 @@ compressor_answer compressor_plan_page(compressor_plan *plan, uint64_t page, uin
    keeps; their numbers are those from 0 on. From now on addresses are those of to-space, from compressor_mutator_root
    on. Of n mutators number k alone makes objects on the fresh pages k, k + n, k + 2n .., counted from 0. So one that
    only sweeps has its share too, and leaves it unused: ask for more.
-   Condition: the name is that of no other crew that is alive, that is, which a handle keeps, or one of whose mutators.
    Refusals: BAD_MUTATORS; TOO_MANY_PAGES, more than the edition allows, or than leave room for a next heap: all pages
    are its words; memory. */
-compressor_answer compressor_plan_flip(compressor_plan *plan, uint64_t name, uint32_t mutators, uint32_t fresh_pages,
+compressor_answer compressor_plan_flip(compressor_plan *plan, uint32_t mutators, uint32_t fresh_pages,
                                        compressor_crew *crew);
 
 enum compressor_audit_options {
@@ -529,9 +540,8 @@ void compressor_plan_drop(compressor_plan *plan);
 /* Takes the mutator out that was handed back last; after a flip the one with the greatest number. Answers its number.
    Refusals: NO_MUTATOR_LEFT; memory. */
 compressor_answer compressor_crew_take(compressor_crew *crew, compressor_mutator *mutator);
-/* Hands a mutator back, which goes. Takes no memory: the room is kept. Condition: crews that are alive have different
-   names (compressor_plan_flip). Refusals: OTHER_CREW, if its crew has another name, or if no mutator of this one is
-   out. */
+/* Hands a mutator back, which goes. Takes no memory: the room is kept. Refusals: OTHER_CREW, if it is of another crew,
+   or if no mutator of this one is out. */
 compressor_answer compressor_crew_give(compressor_crew *crew, compressor_mutator *mutator);
 /* Ends the cycle of the crew, which goes, after all its mutators were handed back, in any order. Answers the live
    words: those that slid and those of new objects. No page has to be swept: if nobody has built a page, its words are
@@ -551,6 +561,10 @@ void compressor_crew_drop(compressor_crew *crew);
 compressor_answer compressor_mutator_read_ref(compressor_mutator *mutator, uint64_t object, uint32_t field);
 compressor_answer compressor_mutator_read_weak(compressor_mutator *mutator, uint64_t object, uint32_t field);
 compressor_answer compressor_mutator_read_data(compressor_mutator *mutator, uint64_t object, uint32_t field);
+
+/* Answers the header word of the object, which never changes: compressor_shape_of says its counts and its tag. Takes no
+   memory, and is never busy. Refusals: NULL_OBJECT; NOT_A_START (the object). */
+compressor_answer compressor_mutator_header(compressor_mutator *mutator, uint64_t object);
 
 /* Write one word, whole, and answer the entry's stamp. A reference or a weak word is null or the address of an object
    that the mutator knows; data is any word. Refusals: NULL_OBJECT; NOT_A_START (the object); NO_SUCH_FIELD;
@@ -580,8 +594,8 @@ compressor_answer compressor_mutator_root(compressor_mutator *mutator, uint64_t 
 compressor_answer compressor_mutator_roots(compressor_mutator *mutator, uint64_t *out, size_t count);
 compressor_answer compressor_mutator_build(compressor_mutator *mutator, uint64_t number);
 compressor_answer compressor_mutator_facts_of(compressor_mutator *mutator, compressor_mutator_facts *facts);
-/* Each has then seen what the other has seen, and knows the objects that the other knew. Takes no memory. Condition:
-   crews that are alive have different names (compressor_plan_flip). Refusals: OTHER_CREW. */
+/* Each has then seen what the other has seen, and knows the objects that the other knew. Takes no memory. Refusals:
+   OTHER_CREW. */
 compressor_answer compressor_mutator_meet(compressor_mutator *mutator, compressor_mutator *other);
 void compressor_mutator_drop(compressor_mutator *mutator);
 

@@ -56,7 +56,7 @@ pub extern "C" fn compressor_end_entry(
 
 /// Copies all roots of a finished heap.
 #[unsafe(no_mangle)]
-pub extern "C" fn compressor_end_roots(alloc: Global, end: &mut Handle, out: &mut [u64]) -> Answer
+pub extern "C" fn compressor_c_end_roots(alloc: Global, end: &mut Handle, out: &mut [u64]) -> Answer
     ensures same { end.new.kept ≡ end.old.kept }
     ensures copies { Asks 0 end_in (CopiesEndRoots out.old out.new) (out.new ≡ out.old) end.old.kept result }
 {
@@ -89,7 +89,7 @@ pub extern "C" fn compressor_end_build(
 /// Makes the heap with which the next cycle begins, with these marks and these roots, to-space addresses of the finished
 /// heap or null. The handle of the heap keeps it then, and that of the end is empty.
 #[unsafe(no_mangle)]
-pub extern "C" fn compressor_end_next_by_marks(
+pub extern "C" fn compressor_c_end_next_by_marks(
     alloc: Global,
     end: &mut Handle,
     marks: &[u32],
@@ -103,7 +103,7 @@ pub extern "C" fn compressor_end_next_by_marks(
 
 /// The same without marks: exactly the objects are marked that the roots reach.
 #[unsafe(no_mangle)]
-pub extern "C" fn compressor_end_next_by_roots(
+pub extern "C" fn compressor_c_end_next_by_roots(
     alloc: Global,
     end: &mut Handle,
     roots: &[u64],
@@ -116,7 +116,7 @@ pub extern "C" fn compressor_end_next_by_roots(
 
 /// Copies the words of all pages, and all roots, as a heap at rest.
 #[unsafe(no_mangle)]
-pub extern "C" fn compressor_end_rest(
+pub extern "C" fn compressor_c_end_rest(
     alloc: Global,
     end: &mut Handle,
     words: &mut [u64],
@@ -130,7 +130,7 @@ pub extern "C" fn compressor_end_rest(
 
 /// Copies the dump of a finished heap.
 #[unsafe(no_mangle)]
-pub extern "C" fn compressor_end_write(alloc: Global, end: &mut Handle, out: &mut [u8]) -> Answer
+pub extern "C" fn compressor_c_end_write(alloc: Global, end: &mut Handle, out: &mut [u8]) -> Answer
     ensures same { end.new.kept ≡ end.old.kept }
     ensures copies { Asks 0 end_in (WritesDump out.old out.new) (out.new ≡ out.old) end.old.kept result }
 {

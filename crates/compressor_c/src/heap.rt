@@ -12,7 +12,7 @@ use std::alloc::Global;
 
 /// Makes a marked heap of this edition, 1 to 4.
 #[unsafe(no_mangle)]
-pub extern "C" fn compressor_heap_by_marks(
+pub extern "C" fn compressor_c_heap_by_marks(
     alloc: Global,
     edition: u32,
     words: &[u64],
@@ -27,7 +27,7 @@ pub extern "C" fn compressor_heap_by_marks(
 
 /// Makes a heap of this edition, 1 to 4, in which exactly the objects are marked that its roots reach.
 #[unsafe(no_mangle)]
-pub extern "C" fn compressor_heap_by_roots(
+pub extern "C" fn compressor_c_heap_by_roots(
     alloc: Global,
     edition: u32,
     words: &[u64],
@@ -54,7 +54,7 @@ pub extern "C" fn compressor_heap_facts_of(
 
 /// Makes a marked heap of an image, of any edition.
 #[unsafe(no_mangle)]
-pub extern "C" fn compressor_heap_read(alloc: Global, bytes: &[u8], heap: &mut Handle) -> Answer
+pub extern "C" fn compressor_c_heap_read(alloc: Global, bytes: &[u8], heap: &mut Handle) -> Answer
     ensures { ReadsImage bytes.now heap.old.kept heap.new.kept result }
 {
     comp_handle::read_image(alloc, bytes, heap)
@@ -62,7 +62,11 @@ pub extern "C" fn compressor_heap_read(alloc: Global, bytes: &[u8], heap: &mut H
 
 /// Copies the image of a marked heap.
 #[unsafe(no_mangle)]
-pub extern "C" fn compressor_heap_write(alloc: Global, heap: &mut Handle, out: &mut [u8]) -> Answer
+pub extern "C" fn compressor_c_heap_write(
+    alloc: Global,
+    heap: &mut Handle,
+    out: &mut [u8],
+) -> Answer
     ensures same { heap.new.kept ≡ heap.old.kept }
     ensures copies { Asks 0 heap_in (WritesImage out.old out.new) (out.new ≡ out.old) heap.old.kept result }
 {
@@ -71,7 +75,7 @@ pub extern "C" fn compressor_heap_write(alloc: Global, heap: &mut Handle, out: &
 
 /// Judges what another collection left of a marked heap.
 #[unsafe(no_mangle)]
-pub extern "C" fn compressor_heap_judge(alloc: Global, heap: &mut Handle, bytes: &[u8]) -> Answer
+pub extern "C" fn compressor_c_heap_judge(alloc: Global, heap: &mut Handle, bytes: &[u8]) -> Answer
     ensures same { heap.new.kept ≡ heap.old.kept }
     ensures judges { Asks 0 heap_in (JudgesMoved bytes.now) (Unit {0}) heap.old.kept result }
 {

@@ -10,7 +10,7 @@ use std::alloc::Global;
 
 /// Begins a job that marks what these roots reach in these words, of this edition, 1 to 4.
 #[unsafe(no_mangle)]
-pub extern "C" fn compressor_job_begin(
+pub extern "C" fn compressor_c_job_begin(
     alloc: Global,
     edition: u32,
     words: &[u64],

@@ -15,7 +15,7 @@ ghost use Rattle.std.specs.Prelude.{◌≡◌};
 /// The version of the library: major * 1,000,000 + minor * 1,000 + patch.
 #[unsafe(no_mangle)]
 pub extern "C" fn compressor_version() -> u32
-    ensures { result ≡ 1000 }
+    ensures { result ≡ 1000000 }
 {
-    1000
+    1000000
 }

@@ -50,6 +50,18 @@ pub extern "C" fn compressor_mutator_read_data(
     comp_handle::make_call(alloc, mutator, Call::ReadData(object, field))
 }
 
+/// Reads the header of an object.
+#[unsafe(no_mangle)]
+pub extern "C" fn compressor_mutator_header(
+    alloc: Global,
+    mutator: &mut Handle,
+    object: u64,
+) -> Answer
+    ensures { Calls (Does (calls.Header object)) mutator.old.kept mutator.new.kept result }
+{
+    comp_handle::make_call(alloc, mutator, Call::Header(object))
+}
+
 /// Writes a reference field.
 #[unsafe(no_mangle)]
 pub extern "C" fn compressor_mutator_write_ref(
@@ -139,7 +151,7 @@ pub extern "C" fn compressor_mutator_root(
 
 /// Copies all forwarded roots.
 #[unsafe(no_mangle)]
-pub extern "C" fn compressor_mutator_roots(
+pub extern "C" fn compressor_c_mutator_roots(
     alloc: Global,
     mutator: &mut Handle,
     out: &mut [u64],

@@ -39,7 +39,7 @@ pub extern "C" fn compressor_plan_share(
 
 /// Makes addresses of from-space lead to where their objects slide.
 #[unsafe(no_mangle)]
-pub extern "C" fn compressor_plan_forward(
+pub extern "C" fn compressor_c_plan_forward(
     alloc: Global,
     plan: &mut Handle,
     addresses: &mut [u64],
@@ -66,7 +66,7 @@ pub extern "C" fn compressor_plan_page(
 
 /// Flips a planned heap for a new crew of this name.
 #[unsafe(no_mangle)]
-pub extern "C" fn compressor_plan_flip(
+pub extern "C" fn compressor_c_plan_flip(
     alloc: Global,
     plan: &mut Handle,
     name: u64,
@@ -82,7 +82,7 @@ pub extern "C" fn compressor_plan_flip(
 
 /// Judges a dump, or a file of words, for the heap of a plan.
 #[unsafe(no_mangle)]
-pub extern "C" fn compressor_plan_audit(
+pub extern "C" fn compressor_c_plan_audit(
     alloc: Global,
     plan: &mut Handle,
     bytes: &[u8],
@@ -96,7 +96,7 @@ pub extern "C" fn compressor_plan_audit(
 
 /// Copies what is wrong where with a dump, or a file of words.
 #[unsafe(no_mangle)]
-pub extern "C" fn compressor_plan_explain(
+pub extern "C" fn compressor_c_plan_explain(
     alloc: Global,
     plan: &mut Handle,
     bytes: &[u8],

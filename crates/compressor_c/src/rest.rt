@@ -9,7 +9,7 @@ use std::alloc::Global;
 
 /// Collects the heap of these words and roots, of this edition, 1 to 4, into another memory.
 #[unsafe(no_mangle)]
-pub extern "C" fn compressor_collect(
+pub extern "C" fn compressor_c_collect(
     alloc: Global,
     edition: u32,
     words: &[u64],
@@ -23,7 +23,7 @@ pub extern "C" fn compressor_collect(
 
 /// The same within the words.
 #[unsafe(no_mangle)]
-pub extern "C" fn compressor_collect_in_place(
+pub extern "C" fn compressor_c_collect_in_place(
     alloc: Global,
     edition: u32,
     words: &mut [u64],
@@ -36,7 +36,7 @@ pub extern "C" fn compressor_collect_in_place(
 
 /// Collects the heap of these words and roots into another memory, by tables that were made before.
 #[unsafe(no_mangle)]
-pub extern "C" fn compressor_collect_lent(
+pub extern "C" fn compressor_c_collect_lent(
     alloc: Global,
     tables: &mut Handle,
     edition: u32,
@@ -52,7 +52,7 @@ pub extern "C" fn compressor_collect_lent(
 
 /// The same within the words.
 #[unsafe(no_mangle)]
-pub extern "C" fn compressor_collect_in_place_lent(
+pub extern "C" fn compressor_c_collect_in_place_lent(
     alloc: Global,
     tables: &mut Handle,
     edition: u32,
@@ -67,7 +67,7 @@ pub extern "C" fn compressor_collect_in_place_lent(
 
 /// Surveys the heap of these words and roots, of this edition, 1 to 4.
 #[unsafe(no_mangle)]
-pub extern "C" fn compressor_survey_by_roots(
+pub extern "C" fn compressor_c_survey_by_roots(
     alloc: Global,
     edition: u32,
     words: &[u64],
@@ -81,7 +81,7 @@ pub extern "C" fn compressor_survey_by_roots(
 
 /// The same by marks of the caller's own, a bit for each word.
 #[unsafe(no_mangle)]
-pub extern "C" fn compressor_survey_by_marks(
+pub extern "C" fn compressor_c_survey_by_marks(
     alloc: Global,
     edition: u32,
     words: &[u64],
@@ -96,7 +96,7 @@ pub extern "C" fn compressor_survey_by_marks(
 
 /// Surveys the heap of these words and roots by tables that were made before. The handle of the survey has them then.
 #[unsafe(no_mangle)]
-pub extern "C" fn compressor_survey_by_roots_lent(
+pub extern "C" fn compressor_c_survey_by_roots_lent(
     alloc: Global,
     tables: &mut Handle,
     edition: u32,
@@ -137,7 +137,7 @@ pub extern "C" fn compressor_survey_share(
 
 /// Fills a part of the memory into which the heap slides, from word `first` on.
 #[unsafe(no_mangle)]
-pub extern "C" fn compressor_survey_slide(
+pub extern "C" fn compressor_c_survey_slide(
     alloc: Global,
     survey: &mut Handle,
     words: &[u64],
@@ -152,7 +152,7 @@ pub extern "C" fn compressor_survey_slide(
 
 /// Makes roots lead to where their objects are after the collection.
 #[unsafe(no_mangle)]
-pub extern "C" fn compressor_survey_forward(
+pub extern "C" fn compressor_c_survey_forward(
     alloc: Global,
     survey: &mut Handle,
     roots: &mut [u64],
@@ -165,7 +165,7 @@ pub extern "C" fn compressor_survey_forward(
 
 /// The same of weak words: one that leads to no live object becomes null.
 #[unsafe(no_mangle)]
-pub extern "C" fn compressor_survey_forward_weak(
+pub extern "C" fn compressor_c_survey_forward_weak(
     alloc: Global,
     survey: &mut Handle,
     words: &mut [u64],

@@ -364,5 +364,5 @@ static VERSIONS: [AskedTask; 4] = [
 #[test]
 fn version_is_printed_for_these_words(rt: HostRuntime) {
     expect_tasks(&rt, &VERSIONS);
-    assert!(rt; VERSION_LINE == "compressor 0.1.0\n");
+    assert!(rt; VERSION_LINE == "compressor 1.0.0\n");
 }

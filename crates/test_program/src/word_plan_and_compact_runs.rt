@@ -57,10 +57,10 @@ pub const RUNS: &[Step] = &[
     Step::Helps("word -h"),
     Step::Helps("plan --help"),
     // Words that ask for the version.
-    Step::Prints("--version", "compressor 0.1.0\n"),
-    Step::Prints("-V", "compressor 0.1.0\n"),
-    Step::Prints("-Vx", "compressor 0.1.0\n"),
-    Step::Prints("--version word", "compressor 0.1.0\n"),
+    Step::Prints("--version", "compressor 1.0.0\n"),
+    Step::Prints("-V", "compressor 1.0.0\n"),
+    Step::Prints("-Vx", "compressor 1.0.0\n"),
+    Step::Prints("--version word", "compressor 1.0.0\n"),
     // Compactions of small heaps, the first one over a longer file; and a dump that cannot be created.
     Step::Write("none.tests.img", Content::EmptyImage),
     Step::Write("one.tests.img", Content::ThreeImage),

@@ -1,0 +1,94 @@
+/* shell.c: what the exports of this crate cannot do. A slice of Rattle has no null pointer, so that of an array of
+   length 0 becomes another one here; and Rattle has no counter for the names of crews. Nothing here is proved: each
+   function makes one call, with its own arguments. tools/join links it into the archive, where the exports that it calls
+   are hidden. */
+#include "compressor.h"
+
+static const uint64_t none[1] = {0};
+static uint64_t crews;
+
+/* An array that is read, and one that is filled. The latter has no words where it is exchanged. */
+#define IN(array, count) ((array) || (count) ? (array) : (const void *)none)
+#define OUT(array, count) ((array) || (count) ? (array) : (void *)(uintptr_t)none)
+#define CALL(name, parameters, arguments)           \
+    compressor_answer compressor_c_##name parameters; \
+    compressor_answer compressor_##name parameters { return compressor_c_##name arguments; }
+
+CALL(collect,
+     (uint32_t edition, const uint64_t *words, size_t word_count, uint64_t *roots, size_t root_count, uint64_t *to,
+      size_t to_count),
+     (edition, IN(words, word_count), word_count, OUT(roots, root_count), root_count, OUT(to, to_count), to_count))
+CALL(collect_in_place,
+     (uint32_t edition, uint64_t *words, size_t word_count, uint64_t *roots, size_t root_count),
+     (edition, OUT(words, word_count), word_count, OUT(roots, root_count), root_count))
+CALL(collect_lent,
+     (compressor_tables *tables, uint32_t edition, const uint64_t *words, size_t word_count, uint64_t *roots,
+      size_t root_count, uint64_t *to, size_t to_count),
+     (tables, edition, IN(words, word_count), word_count, OUT(roots, root_count), root_count, OUT(to, to_count),
+      to_count))
+CALL(collect_in_place_lent,
+     (compressor_tables *tables, uint32_t edition, uint64_t *words, size_t word_count, uint64_t *roots,
+      size_t root_count),
+     (tables, edition, OUT(words, word_count), word_count, OUT(roots, root_count), root_count))
+CALL(survey_by_roots,
+     (uint32_t edition, const uint64_t *words, size_t word_count, const uint64_t *roots, size_t root_count,
+      compressor_survey *survey),
+     (edition, IN(words, word_count), word_count, IN(roots, root_count), root_count, survey))
+CALL(survey_by_marks,
+     (uint32_t edition, const uint64_t *words, size_t word_count, const uint64_t *roots, size_t root_count,
+      const uint64_t *marks, size_t block_count, compressor_survey *survey),
+     (edition, IN(words, word_count), word_count, IN(roots, root_count), root_count, IN(marks, block_count),
+      block_count, survey))
+CALL(survey_by_roots_lent,
+     (compressor_tables *tables, uint32_t edition, const uint64_t *words, size_t word_count, const uint64_t *roots,
+      size_t root_count, compressor_survey *survey),
+     (tables, edition, IN(words, word_count), word_count, IN(roots, root_count), root_count, survey))
+CALL(survey_slide,
+     (compressor_survey *survey, const uint64_t *words, size_t word_count, uint64_t first, uint64_t *part,
+      size_t part_count),
+     (survey, IN(words, word_count), word_count, first, OUT(part, part_count), part_count))
+CALL(survey_forward, (compressor_survey *survey, uint64_t *roots, size_t root_count),
+     (survey, OUT(roots, root_count), root_count))
+CALL(survey_forward_weak, (compressor_survey *survey, uint64_t *words, size_t word_count),
+     (survey, OUT(words, word_count), word_count))
+CALL(job_begin,
+     (uint32_t edition, const uint64_t *words, size_t word_count, const uint64_t *roots, size_t root_count,
+      compressor_job *job),
+     (edition, IN(words, word_count), word_count, IN(roots, root_count), root_count, job))
+CALL(heap_by_marks,
+     (uint32_t edition, const uint64_t *words, size_t word_count, const uint32_t *marks, size_t mark_count,
+      const uint64_t *roots, size_t root_count, compressor_heap *heap),
+     (edition, IN(words, word_count), word_count, IN(marks, mark_count), mark_count, IN(roots, root_count), root_count,
+      heap))
+CALL(heap_by_roots,
+     (uint32_t edition, const uint64_t *words, size_t word_count, const uint64_t *roots, size_t root_count,
+      compressor_heap *heap),
+     (edition, IN(words, word_count), word_count, IN(roots, root_count), root_count, heap))
+CALL(heap_read, (const uint8_t *bytes, size_t count, compressor_heap *heap), (IN(bytes, count), count, heap))
+CALL(heap_write, (compressor_heap *heap, uint8_t *out, size_t count), (heap, OUT(out, count), count))
+CALL(heap_judge, (compressor_heap *heap, const uint8_t *bytes, size_t count), (heap, IN(bytes, count), count))
+CALL(plan_forward, (compressor_plan *plan, uint64_t *addresses, size_t count), (plan, OUT(addresses, count), count))
+CALL(plan_audit, (compressor_plan *plan, const uint8_t *bytes, size_t count, uint32_t options),
+     (plan, IN(bytes, count), count, options))
+CALL(plan_explain,
+     (compressor_plan *plan, const uint8_t *bytes, size_t count, uint32_t options, uint8_t *out, size_t out_count),
+     (plan, IN(bytes, count), count, options, OUT(out, out_count), out_count))
+CALL(mutator_roots, (compressor_mutator *mutator, uint64_t *out, size_t count), (mutator, OUT(out, count), count))
+CALL(end_roots, (compressor_end *end, uint64_t *out, size_t count), (end, OUT(out, count), count))
+CALL(end_next_by_marks,
+     (compressor_end *end, const uint32_t *marks, size_t mark_count, const uint64_t *roots, size_t root_count,
+      compressor_heap *heap),
+     (end, IN(marks, mark_count), mark_count, IN(roots, root_count), root_count, heap))
+CALL(end_next_by_roots, (compressor_end *end, const uint64_t *roots, size_t root_count, compressor_heap *heap),
+     (end, IN(roots, root_count), root_count, heap))
+CALL(end_rest, (compressor_end *end, uint64_t *words, size_t word_count, uint64_t *roots, size_t root_count),
+     (end, OUT(words, word_count), word_count, OUT(roots, root_count), root_count))
+CALL(end_write, (compressor_end *end, uint8_t *out, size_t count), (end, OUT(out, count), count))
+
+/* No two crews have one name: the counter gives each number once. */
+compressor_answer compressor_c_plan_flip(compressor_plan *plan, uint64_t name, uint32_t mutators, uint32_t fresh_pages,
+                                         compressor_crew *crew);
+compressor_answer compressor_plan_flip(compressor_plan *plan, uint32_t mutators, uint32_t fresh_pages,
+                                       compressor_crew *crew) {
+    return compressor_c_plan_flip(plan, __atomic_fetch_add(&crews, 1, __ATOMIC_RELAXED), mutators, fresh_pages, crew);
+}
