@@ -1,5 +1,5 @@
-/* Refuses one allocation of a program, whose number, from 1, the environment names in REFUSE, and each of more bytes than it names in REFUSE_ABOVE. To be
-   loaded before the C library. Where there is such an allocation, the file that REFUSE_TOLD names is made. It includes nothing: the kit's compiler has no
+/* Refuses one allocation of a program, whose number, from 1, the environment names in REFUSE, with REFUSE_ON also each later one, and each of more bytes than it names in
+   REFUSE_ABOVE. To be loaded before the C library. Where there is such an allocation, the file that REFUSE_TOLD names is made. It includes nothing: the kit's compiler has no
    headers. */
 typedef unsigned long size;
 
@@ -18,6 +18,7 @@ extern int *__errno_location(void);
 
 static long count;
 static long refused = -1;
+static int on;
 static size above;
 static const char *told;
 static void *(*real_malloc)(size);
@@ -46,12 +47,14 @@ __attribute__((constructor)) static void begin(void) {
     const char *limit = getenv("REFUSE_ABOVE");
     above = limit ? (size)atol(limit) : 0;
     told = getenv("REFUSE_TOLD");
+    on = getenv("REFUSE_ON") != 0;
     refused = number ? atol(number) : 0;
 }
 
 static int is_refused(size bytes) {
     if (refused < 0) return 0;
-    int is_next = __atomic_add_fetch(&count, 1, __ATOMIC_SEQ_CST) == refused;
+    long it = __atomic_add_fetch(&count, 1, __ATOMIC_SEQ_CST);
+    int is_next = on ? it >= refused : it == refused;
     if (!is_next && (!above || bytes <= above)) return 0;
     int file = told ? creat(told, 0666) : -1;
     if (file >= 0) close(file);

@@ -71,7 +71,7 @@ static int run_body(evaluator *e, slot x, slot body, slot scope) {
 static int apply(evaluator *e, slot out, slot f, slot first, uint32_t count, slot x, slot scope) {
     slot names, name, body;
     uint32_t i;
-    uint64_t kind = kind_of(e, f);
+    uint32_t kind = kind_of(e, f);
     if (kind == PRIMITIVE) {
         call_primitive(e, out, f, first, count);
         return DONE;

@@ -1,14 +1,16 @@
-/* heap.h: the collector as a runtime uses it.
+/* heap.h: the heap as a runtime uses it, whichever collector it has.
 
-   Nobody outside heap.c holds an address. A value is named by a slot: a place on the evaluator's own stack of roots.
-   A collection forwards what the slots hold, so a slot names the same object before and after any call.
+   Nobody outside the heap's files holds an address. A value is named by a slot: a place on the evaluator's own stack
+   of roots. A collection forwards what the slots hold, so a slot names the same value before and after any call.
 
-   An object has reference fields, then data words. A new object has at most MOST_WORDS words, one of them its header;
-   its fields are null and zero. Each read or write is one word, whole, and all evaluators see them in one order. */
+   A value is null, a small value, which is a number of one of 8 kinds, or an object: reference fields, which hold
+   values, then data words. A new object has at most heap_most_words() words, one of them its header, which says its
+   kind; its fields are null and zero. Each read or write is one word, whole, and who reads a word sees all that its
+   writer saw and wrote before. */
 #ifndef HEAP_H
 #define HEAP_H
 
-#include "compressor.h"
+#include "compressor_rest.h"
 
 #include <setjmp.h>
 #include <stdio.h>
@@ -18,41 +20,51 @@ extern "C" {
 #endif
 
 enum {
-    MOST_WORDS = 64,       /* of a new object */
+    MOST_WORDS = 64,       /* of a new object that each heap can make */
     MOST_EVALUATORS = 4,
-    COLLECTORS = 2,        /* the threads that sweep */
-    MOST_PAGES = 512,      /* fresh pages of a mutator */
-    STACK_SLOTS = 200000   /* of each evaluator; all of them together are fewer than the roots of edition three */
+    MOST_PAGES = 512,      /* of 64 words, which an evaluator has for new objects in a cycle */
+    STACK_SLOTS = 200000   /* of each evaluator; all of them together are fewer than the roots of edition four */
 };
 
 typedef uint32_t slot;
+typedef struct collector collector;
 
-/* A thread that runs the program, with its mutator and its roots. */
+/* A thread that runs the program, with its roots, and what its collector keeps for it. */
 typedef struct evaluator {
-    compressor_mutator mutator;
     uint64_t *stack;       /* the roots: the slots below top */
     slot top;
     uint32_t number;
     uint32_t depth;        /* of the runtime's own recursion */
     jmp_buf base;          /* where an evaluator goes on after heap_fail, in itself or in another one */
+    uint64_t longest_pause, all_pauses, pauses;
+    /* at rest */
+    compressor_buffer buffer; /* of new objects */
+    /* flipped */
+    compressor_mutator mutator;
     uint64_t allocated;    /* words of the objects made since the flip */
     uint32_t refused;      /* calls in a row that found no memory */
     uint64_t began;        /* when the present call began, in nanoseconds; 0 if nothing is measured */
-    uint64_t slowest_call, longest_pause, all_pauses, pauses;
+    uint64_t slowest_call;
     uint64_t busy, pages_out, journals_full; /* answers of calls */
 } evaluator;
 
 struct heap_options {
+    const collector *by;   /* heap_collector answers it */
     uint32_t evaluators;   /* 1 to MOST_EVALUATORS */
-    uint32_t pages;        /* fresh pages of each mutator in a cycle, 1 to MOST_PAGES */
+    uint32_t pages;        /* for new objects of each evaluator in a cycle, 1 to MOST_PAGES */
     uint64_t limit;        /* out of memory, if more words than these are live after a cycle */
     int measured;          /* calls and pauses are timed */
 };
 
-/* The header of an object of edition three, for the words of the first heap. */
-uint64_t heap_header(uint64_t refs, uint64_t data_words, uint64_t tag);
+/* The collector of this name, "rest" or "flip", or null. */
+const collector *heap_collector(const char *name);
+
+/* The header of an object, for the words of the first heap. A kind is a number up to 16,383. */
+uint64_t heap_header(uint64_t refs, uint64_t data_words, uint64_t kind);
 /* The from-space address of word i of the first heap. */
 uint64_t heap_first_address(uint64_t i);
+/* A small value, for its fields and roots. */
+uint64_t heap_first_small(uint32_t kind, int64_t number);
 
 /* Begins with a first heap. Each evaluator's stack has the roots in its lowest slots. Null, or the name of an error. */
 const char *heap_start(const struct heap_options *options, const uint64_t *words, size_t word_count,
@@ -72,8 +84,17 @@ void heap_copy(evaluator *e, slot to, slot from);
 int heap_is_null(const evaluator *e, slot at);
 int heap_same(const evaluator *e, slot a, slot b);
 
+/* Small values. heap_set_small answers 0, and does nothing, if the number is too large for one. */
+int heap_is_small(const evaluator *e, slot at);
+int64_t heap_small(const evaluator *e, slot at);
+int heap_set_small(evaluator *e, slot to, uint32_t kind, int64_t number);
+
+/* The kind of a small value or an object. */
+uint32_t heap_kind(evaluator *e, slot value);
+
 /* Objects. heap_new and the two that write may collect. */
-void heap_new(evaluator *e, slot to, uint32_t refs, uint32_t data_words, uint32_t tag);
+uint64_t heap_most_words(void);
+void heap_new(evaluator *e, slot to, uint32_t refs, uint32_t data_words, uint32_t kind);
 void heap_ref(evaluator *e, slot to, slot object, uint32_t field);
 void heap_set_ref(evaluator *e, slot object, uint32_t field, slot value);
 uint64_t heap_word(evaluator *e, slot object, uint32_t field);

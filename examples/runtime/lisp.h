@@ -1,16 +1,13 @@
 /* lisp.h: the values of the Lisp, and what its files offer to one another.
 
-   Every value is an object, or null, which is the empty list. A reference field holds null or an object's start and
-   nothing else, so an integer is an object too. (A reference with a data word beside it could hold small integers. But
-   it would be written in two steps, and another evaluator could see the one without the other.) The collector does not
-   tell an object's tag, so each object says its kind in data word 0.
+   A value is null, which is the empty list, or it has a kind. INTEGER, BOOLEAN, whose numbers are 0 and 1, and UNBOUND
+   are kinds of small values; all else, and an integer of more than 60 bits, is an object.
 
-   kind        reference fields                 data words after the kind
-   CELL        car, cdr
+   kind        reference fields                 data words
    INTEGER                                      the number
-   BOOLEAN                                      0 or 1
+   CELL        car, cdr
    SYMBOL      global value, next symbol        its special form or 0, length of the name, the name in words
-   VECTOR      chunks                           length
+   VECTOR      elements, or chunks of them      length
    CHUNK       up to CHUNK_LENGTH elements
    CLOSURE     parameters, body, scope
    PRIMITIVE                                    its number
@@ -24,28 +21,29 @@
 extern "C" {
 #endif
 
-/* kinds. UNBOUND is the value of a symbol that has none, WORLD is what all evaluators share */
-enum { NIL, CELL, INTEGER, BOOLEAN, SYMBOL, VECTOR, CHUNK, CLOSURE, PRIMITIVE, BINDING, UNBOUND, WORLD };
+/* kinds, those of small values first. UNBOUND is the value of a symbol that has none, NIL is said of the empty list,
+   WORLD is what all evaluators share */
+enum { INTEGER, BOOLEAN, UNBOUND, NIL, CELL, SYMBOL, VECTOR, CHUNK, CLOSURE, PRIMITIVE, BINDING, WORLD };
 
 /* reference fields; VALUE is that of a symbol and of a binding */
 enum { CAR = 0, CDR = 1, VALUE = 0, SYMBOL_NEXT = 1, BINDING_NAME = 1, BINDING_NEXT = 2 };
 enum { CLOSURE_NAMES, CLOSURE_BODY, CLOSURE_SCOPE };
 enum { WORLD_SYMBOLS, WORLD_WORK, WORLD_RESULTS, WORLD_FIELDS };
 /* data words */
-enum { KIND, NUMBER, LENGTH = 1, SYMBOL_FORM = 1, SYMBOL_LENGTH = 2, SYMBOL_NAME = 3 };
+enum { NUMBER = 0, LENGTH = 0, SYMBOL_FORM = 0, SYMBOL_LENGTH = 1, SYMBOL_NAME = 2 };
 
 /* the lowest slots of each stack */
 enum { WORLD_SLOT, FALSE_SLOT, TRUE_SLOT, UNBOUND_SLOT, FIRST_SLOTS };
 
 enum {
-    MOST_NAME = 64,      /* bytes of a symbol's name */
-    CHUNK_LENGTH = 62,   /* a chunk is the largest new object: its header, its kind, and these */
-    MOST_CHUNKS = 61,    /* of a vector: beside its header, its kind and its length */
-    MOST_DEPTH = 10000   /* of forms within forms */
+    MOST_NAME = 64,                /* bytes of a symbol's name */
+    CHUNK_LENGTH = MOST_WORDS - 1, /* beside its header */
+    MOST_CHUNKS = MOST_WORDS - 2,  /* of a vector, beside its header and its length */
+    MOST_DEPTH = 10000             /* of forms within forms */
 };
 
 /* values.c: making values and taking them apart. `out` may be the slot of an argument. */
-uint64_t kind_of(evaluator *e, slot value);
+uint32_t kind_of(evaluator *e, slot value);
 void make_integer(evaluator *e, slot out, int64_t number);
 int64_t integer_of(evaluator *e, slot value);
 void make_boolean(evaluator *e, slot out, int is_so);

@@ -10,7 +10,7 @@
 #define STACK_BYTES ((size_t)256 << 20) /* of C, for each evaluator: enough for MOST_DEPTH */
 
 static const char usage[] =
-    "usage: lisp [--evaluators 1..4] [--pages 1..512] [--limit WORDS] [--statistics] PROGRAM\n";
+    "usage: lisp [--collector rest|flip] [--evaluators 1..4] [--pages 1..512] [--limit WORDS] [--statistics] PROGRAM\n";
 
 static char *program;
 static size_t program_length;
@@ -35,25 +35,16 @@ static void *run(void *given) {
     return NULL;
 }
 
-/* The first heap: the world, false, true, and the value of symbols that have none. */
+/* The first heap: the world. All stacks begin with it, false, true, and the value of symbols that have none. */
 static const char *start(const struct heap_options *options) {
-    uint64_t words[1 + WORLD_FIELDS + 1 + 3 + 3 + 2], roots[FIRST_SLOTS];
-    size_t n = 0, k;
+    uint64_t words[1 + WORLD_FIELDS], roots[FIRST_SLOTS];
     memset(words, 0, sizeof words);
-    roots[WORLD_SLOT] = heap_first_address(n);
-    words[n] = heap_header(WORLD_FIELDS, 1, WORLD);
-    n += 1 + WORLD_FIELDS;
-    words[n++] = WORLD;
-    for (k = 0; k < 2; k++) {
-        roots[FALSE_SLOT + k] = heap_first_address(n);
-        words[n++] = heap_header(0, 2, BOOLEAN);
-        words[n++] = BOOLEAN;
-        words[n++] = k;
-    }
-    roots[UNBOUND_SLOT] = heap_first_address(n);
-    words[n++] = heap_header(0, 1, UNBOUND);
-    words[n++] = UNBOUND;
-    return heap_start(options, words, n, roots, FIRST_SLOTS);
+    words[0] = heap_header(WORLD_FIELDS, 0, WORLD);
+    roots[WORLD_SLOT] = heap_first_address(0);
+    roots[FALSE_SLOT] = heap_first_small(BOOLEAN, 0);
+    roots[TRUE_SLOT] = heap_first_small(BOOLEAN, 1);
+    roots[UNBOUND_SLOT] = heap_first_small(UNBOUND, 0);
+    return heap_start(options, words, 1 + WORLD_FIELDS, roots, FIRST_SLOTS);
 }
 
 /* Runs the evaluators to their end. */
@@ -113,7 +104,14 @@ static const char *read_options(char **words, struct heap_options *options) {
     const char *path = NULL;
     uint64_t n = 0;
     for (; *words; words++) {
-        if (strcmp(*words, "--evaluators") == 0) {
+        if (strcmp(*words, "--collector") == 0) {
+            if (!*++words) return NULL;
+            options->by = heap_collector(*words);
+            if (!options->by) {
+                fprintf(stderr, "lisp: NoSuchCollector(%s)\n", *words);
+                return NULL;
+            }
+        } else if (strcmp(*words, "--evaluators") == 0) {
             if (!number_in(*++words, 1, MOST_EVALUATORS, &n)) return NULL;
             options->evaluators = (uint32_t)n;
         } else if (strcmp(*words, "--pages") == 0) {
@@ -133,7 +131,7 @@ static const char *read_options(char **words, struct heap_options *options) {
 }
 
 int main(int count, char **words) {
-    struct heap_options options = {2, 32, (uint64_t)1 << 22, 0};
+    struct heap_options options = {heap_collector("rest"), 2, 32, (uint64_t)1 << 22, 0};
     const char *error, *path = count > 0 ? read_options(words + 1, &options) : NULL;
     if (!path) {
         fputs(usage, stderr);

@@ -77,7 +77,7 @@ static void print(evaluator *e, slot value, text *t, uint32_t nested) {
     case SYMBOL: put(t, name, symbol_name(e, value, name)); return;
     case BOOLEAN: put_text(t, heap_same(e, value, TRUE_SLOT) ? "#t" : "#f"); return;
     case INTEGER:
-        snprintf(number, sizeof number, "%lld", (long long)heap_word(e, value, NUMBER));
+        snprintf(number, sizeof number, "%lld", (long long)integer_of(e, value));
         put_text(t, number);
         return;
     default: put_text(t, "#function"); return;

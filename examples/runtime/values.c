@@ -7,8 +7,7 @@
 
 static slot make(evaluator *e, uint32_t kind, uint32_t refs, uint32_t data_words) {
     slot made = heap_push(e);
-    heap_new(e, made, refs, 1 + data_words, kind);
-    heap_set_word(e, made, KIND, kind);
+    heap_new(e, made, refs, data_words, kind);
     return made;
 }
 
@@ -17,19 +16,21 @@ static void deliver(evaluator *e, slot out, slot made) {
     heap_pop(e, made);
 }
 
-uint64_t kind_of(evaluator *e, slot value) {
-    return heap_is_null(e, value) ? (uint64_t)NIL : heap_word(e, value, KIND);
+uint32_t kind_of(evaluator *e, slot value) {
+    return heap_is_null(e, value) ? (uint32_t)NIL : heap_kind(e, value);
 }
 
 void make_integer(evaluator *e, slot out, int64_t number) {
-    slot made = make(e, INTEGER, 0, 1);
+    slot made;
+    if (heap_set_small(e, out, INTEGER, number)) return;
+    made = make(e, INTEGER, 0, 1);
     heap_set_word(e, made, NUMBER, (uint64_t)number);
     deliver(e, out, made);
 }
 
 int64_t integer_of(evaluator *e, slot value) {
     if (kind_of(e, value) != INTEGER) fail_with(e, "NotAnInteger", value);
-    return (int64_t)heap_word(e, value, NUMBER);
+    return heap_is_small(e, value) ? heap_small(e, value) : (int64_t)heap_word(e, value, NUMBER);
 }
 
 void make_boolean(evaluator *e, slot out, int is_so) {
@@ -66,44 +67,74 @@ void bind(evaluator *e, slot scope, slot name, slot value) {
     deliver(e, scope, made);
 }
 
-void make_vector(evaluator *e, slot out, int64_t length, slot filling) {
-    int64_t chunks, i, left;
-    slot made, chunk;
-    if (length < 0 || length > MOST_CHUNKS * CHUNK_LENGTH) heap_fail(e, "BadLength", "");
-    chunks = (length + CHUNK_LENGTH - 1) / CHUNK_LENGTH;
-    made = make(e, VECTOR, (uint32_t)chunks, 1);
-    heap_set_word(e, made, LENGTH, (uint64_t)length);
-    for (i = 0, left = length; i < chunks; i++, left -= CHUNK_LENGTH) {
-        uint32_t elements = CHUNK_LENGTH, f;
-        if (left < CHUNK_LENGTH) elements = (uint32_t)left;
-        chunk = make(e, CHUNK, elements, 0);
-        for (f = 0; f < elements; f++) heap_set_ref(e, chunk, f, filling);
-        heap_set_ref(e, made, (uint32_t)i, chunk);
-        heap_pop(e, chunk);
+/* Is a vector of this length one object? It else leads to chunks. */
+static int is_whole(uint64_t length) {
+    return length <= heap_most_words() - 2; /* beside its header and its length */
+}
+
+static void fill(evaluator *e, slot object, uint32_t count, slot filling) {
+    uint32_t f;
+    for (f = 0; f < count; f++) heap_set_ref(e, object, f, filling);
+}
+
+static void add_chunks(evaluator *e, slot vector, uint32_t length, slot filling) {
+    slot chunk = heap_push(e);
+    uint32_t i, left;
+    for (i = 0, left = length; left > 0; i++) {
+        uint32_t elements = left < CHUNK_LENGTH ? left : (uint32_t)CHUNK_LENGTH;
+        heap_new(e, chunk, elements, 0, CHUNK);
+        fill(e, chunk, elements, filling);
+        heap_set_ref(e, vector, i, chunk);
+        left -= elements;
     }
+    heap_pop(e, chunk);
+}
+
+void make_vector(evaluator *e, slot out, int64_t length, slot filling) {
+    slot made;
+    if (length >= 0 && is_whole((uint64_t)length)) {
+        made = make(e, VECTOR, (uint32_t)length, 1);
+        fill(e, made, (uint32_t)length, filling);
+    } else if (length >= 0 && length <= MOST_CHUNKS * CHUNK_LENGTH) {
+        made = make(e, VECTOR, (uint32_t)(length + CHUNK_LENGTH - 1) / CHUNK_LENGTH, 1);
+        add_chunks(e, made, (uint32_t)length, filling);
+    } else {
+        heap_fail(e, "BadLength", "");
+    }
+    heap_set_word(e, made, LENGTH, (uint64_t)length);
     deliver(e, out, made);
 }
 
-/* A new slot with the chunk of an element. */
-static slot chunk_of(evaluator *e, slot vector, int64_t index) {
-    slot chunk;
+/* A new slot with the object that has the element in this field of it. */
+static slot home_of(evaluator *e, slot vector, int64_t index, uint32_t *field) {
+    uint64_t length;
+    slot home;
     if (kind_of(e, vector) != VECTOR) fail_with(e, "NotAVector", vector);
-    if (index < 0 || (uint64_t)index >= heap_word(e, vector, LENGTH)) heap_fail(e, "BadIndex", "");
-    chunk = heap_push(e);
-    heap_ref(e, chunk, vector, (uint32_t)(index / CHUNK_LENGTH));
-    return chunk;
+    length = heap_word(e, vector, LENGTH);
+    if (index < 0 || (uint64_t)index >= length) heap_fail(e, "BadIndex", "");
+    home = heap_push(e);
+    if (is_whole(length)) {
+        heap_copy(e, home, vector);
+        *field = (uint32_t)index;
+    } else {
+        heap_ref(e, home, vector, (uint32_t)(index / CHUNK_LENGTH));
+        *field = (uint32_t)(index % CHUNK_LENGTH);
+    }
+    return home;
 }
 
 void vector_get(evaluator *e, slot out, slot vector, int64_t index) {
-    slot chunk = chunk_of(e, vector, index);
-    heap_ref(e, out, chunk, (uint32_t)(index % CHUNK_LENGTH));
-    heap_pop(e, chunk);
+    uint32_t field;
+    slot home = home_of(e, vector, index, &field);
+    heap_ref(e, out, home, field);
+    heap_pop(e, home);
 }
 
 void vector_set(evaluator *e, slot vector, int64_t index, slot value) {
-    slot chunk = chunk_of(e, vector, index);
-    heap_set_ref(e, chunk, (uint32_t)(index % CHUNK_LENGTH), value);
-    heap_pop(e, chunk);
+    uint32_t field;
+    slot home = home_of(e, vector, index, &field);
+    heap_set_ref(e, home, field, value);
+    heap_pop(e, home);
 }
 
 /* The word of a name that begins at byte `from`. */

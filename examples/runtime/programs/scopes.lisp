@@ -39,3 +39,5 @@
 (print (let ((x 1)) (let ((x 2) (y x)) (list x y))))
 (print (if #f 1) (vector) (vector 'a (vector 1 (list 2)) -5) car (lambda (x) x))
 (print (vector-ref long 199) (vector-length long))
+(define most 576460752303423487) ; of 60 bits
+(print most (+ most 1) (- (+ most 1) 1) (- (- most) 1) (- (- most) 2) (= (- (- (- most) 2) -1) (- (- most) 1)) (eq? 7 (+ 3 4)))

@@ -1,0 +1,90 @@
+/* collector.h: what heap.c and a collector, rest_heap.c or flip_heap.c, offer to one another. */
+#ifndef COLLECTOR_H
+#define COLLECTOR_H
+
+#include "heap.h"
+
+#include <pthread.h>
+
+#ifdef __cplusplus
+extern "C" {
+#endif
+
+enum { EDITION = 4 };
+
+/* A collector. What answers a text answers null, or the name of an error. start, arrive and turn are called under the
+   lock. */
+struct collector {
+    const char *name;
+    uint64_t most_words; /* of a new object */
+    /* The heap begins with these words. The roots are in heap.roots, and are put back there. */
+    const char *(*start)(const uint64_t *words, size_t word_count);
+    /* The evaluator has stopped. */
+    const char *(*arrive)(evaluator *e);
+    /* All have: collects. The roots are in heap.roots, and are put back there. It may leave the lock for a while. */
+    const char *(*turn)(void);
+    /* An evaluator has stopped while others have not, or while the turn is made: does a part of the turn, if one waits.
+       Answers whether it did. It is called under the lock, which it leaves for a while. */
+    int (*help)(void);
+    /* Wakes threads of the collector's own, without the lock too. */
+    void (*wake)(void);
+    /* All threads of evaluators were joined. It is called after a start that failed, or was not, too. */
+    const char *(*end)(void);
+    void (*tell)(FILE *to);
+    /* heap.h says what these do */
+    void (*make)(evaluator *e, slot to, uint32_t refs, uint32_t data_words, uint32_t kind);
+    uint32_t (*kind)(evaluator *e, slot object);
+    void (*ref)(evaluator *e, slot to, slot object, uint32_t field);
+    void (*set_ref)(evaluator *e, slot object, uint32_t field, slot value);
+    uint64_t (*word)(evaluator *e, slot object, uint32_t field);
+    void (*set_word)(evaluator *e, slot object, uint32_t field, uint64_t value);
+};
+
+extern const collector collector_at_rest, collector_flipped;
+
+/* What evaluators and the collector share, by one lock. */
+struct heap {
+    struct heap_options options;
+    pthread_mutex_t lock;
+    pthread_cond_t changed; /* evaluators wait for it */
+    evaluator evaluators[MOST_EVALUATORS];
+    uint64_t *roots;       /* of all stacks, gathered while all are stopped */
+    size_t root_count;
+    uint64_t live;         /* words, after the last collection */
+    uint64_t cycles;
+    uint32_t stopped;      /* evaluators at the safepoint */
+    int stopping;          /* evaluators are to stop; read without the lock too */
+    int ending;            /* the program ends */
+    char error[256];
+};
+extern struct heap heap;
+
+/* A call of the library was refused by a fault of the caller's. */
+void heap_broken(const char *call, compressor_answer a) __attribute__((noreturn));
+/* So many words are live after a collection. Null, or OutOfMemory if they are more than the limit. */
+const char *heap_keeps(uint64_t live);
+/* The end of the program, with an error or null. The lock is held. */
+void heap_end_with(const char *name, const char *about);
+
+/* Times, in nanoseconds, 0 if nothing is measured. */
+typedef struct part {
+    const char *name;
+    uint64_t all, longest;
+} part;
+
+uint64_t heap_now(void);
+static inline void heap_raise(uint64_t *most, uint64_t value) {
+    if (value > *most) *most = value;
+}
+/* A part of a cycle has taken the time since then. Answers the time. */
+uint64_t heap_time(part *p, uint64_t since);
+void heap_tell_parts(FILE *to, const part *parts, size_t count);
+static inline double heap_micro(uint64_t nanoseconds) {
+    return (double)nanoseconds / 1000;
+}
+
+#ifdef __cplusplus
+}
+#endif
+
+#endif

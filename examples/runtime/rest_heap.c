@@ -1,0 +1,216 @@
+/* rest_heap.c: a heap at rest. It lies in memory of the program, which reads, writes and allocates there with no call.
+
+   Of a cycle:
+   1. An evaluator whose buffer has no room wants a stop (heap.c).
+   2. The last one to arrive makes the one call that collects, within the memory. The tables for it were made at the
+      start, so it allocates nothing. Of a large heap it makes the survey alone; then all slide it into a second memory,
+      each a part, and the two memories change places.
+   3. It deals each evaluator a new buffer, of zeroed words behind the live ones. What lies behind all buffers is for
+      objects of more than MOST_WORDS words, each of which has words of its own.
+
+   An evaluator makes objects in its own buffer. It stores a reference by release, and loads it by acquire: so whoever
+   finds an object finds its header and its fields. */
+#include "collector.h"
+
+#include <stdlib.h>
+#include <string.h>
+
+enum { LARGE = 50000 }; /* live words of a heap that all evaluators slide */
+
+static struct {
+    compressor_space space;
+    compressor_tables tables;
+    uint64_t *words;
+    uint64_t *second; /* memory; null if there is one evaluator */
+    uint64_t left;    /* words behind all buffers, after the last collection */
+    /* of a turn that all make: parts of the live words and of the roots, by a survey and its shares */
+    compressor_survey surveys[MOST_EVALUATORS];
+    uint64_t live;
+    uint32_t parts, begun, done;
+    uint64_t turns_of_all;
+} rest;
+
+static part collection = {"collection", 0, 0};
+
+/* The words of a buffer. */
+static uint64_t buffer_words(void) {
+    return (uint64_t)heap.options.pages * COMPRESSOR_PAGE_WORDS;
+}
+
+/* The words of a memory: those that may be live, and all buffers. */
+static uint64_t all_words(void) {
+    return heap.options.limit + heap.options.evaluators * buffer_words();
+}
+
+/* So many words of the memory are objects. Behind them each evaluator gets a buffer. */
+static const char *deal(uint64_t live) {
+    const uint64_t words = buffer_words();
+    const char *fault = heap_keeps(live);
+    uint32_t k;
+    if (fault) return fault;
+    compressor_space_in(&rest.space, EDITION, rest.words, all_words(), live);
+    for (k = 0; k < heap.options.evaluators; k++) {
+        compressor_buffer *own = &heap.evaluators[k].buffer;
+        uint64_t taken = 0;
+        own->at = compressor_space_take(&rest.space, words, words, &taken);
+        if (own->at == 0) return "OutOfMemory"; /* an edition has no more words */
+        own->end = own->at + taken;
+    }
+    rest.left = rest.space.room - rest.space.used;
+    return NULL;
+}
+
+static const char *start(const uint64_t *words, size_t word_count) {
+    const compressor_answer a = compressor_tables_reserve(all_words(), &rest.tables);
+    if (a.status != COMPRESSOR_DONE) return "OutOfMemory";
+    rest.words = (uint64_t *)calloc(all_words(), sizeof *rest.words);
+    if (!rest.words || word_count > heap.options.limit) return "OutOfMemory";
+    if (heap.options.evaluators > 1) {
+        rest.second = (uint64_t *)calloc(all_words(), sizeof *rest.second);
+        if (!rest.second) return "OutOfMemory";
+    }
+    memcpy(rest.words, words, word_count * sizeof *words);
+    return deal(word_count);
+}
+
+static const char *arrive(evaluator *e) {
+    (void)e;
+    return NULL;
+}
+
+/* The turn. */
+
+/* Slides a part of the live words, and forwards a part of the roots. */
+static void do_part(uint32_t k) {
+    size_t count;
+    uint64_t first = compressor_part(rest.live, rest.parts, k, &count);
+    compressor_answer a = compressor_survey_slide(&rest.surveys[k], rest.words, rest.space.used, first,
+                                                  rest.second + first, count);
+    if (a.status != COMPRESSOR_DONE) heap_broken("compressor_survey_slide", a);
+    first = compressor_part(heap.root_count, rest.parts, k, &count);
+    a = compressor_survey_forward(&rest.surveys[k], heap.roots + first, count);
+    if (a.status != COMPRESSOR_DONE) heap_broken("compressor_survey_forward", a);
+}
+
+static int help(void) {
+    uint32_t k = rest.begun;
+    if (k == rest.parts) return 0;
+    rest.begun++;
+    pthread_mutex_unlock(&heap.lock);
+    do_part(k);
+    pthread_mutex_lock(&heap.lock);
+    if (++rest.done == rest.parts) pthread_cond_broadcast(&heap.changed);
+    return 1;
+}
+
+/* Answers 0, and does nothing, if there is no memory for the survey, some 200 bytes. Without memory for a share there
+   are fewer parts. Whoever is free does the next part: nobody waits for one who has not begun. */
+static int collect_by_all(void) {
+    uint64_t *old = rest.words;
+    compressor_answer a = compressor_survey_by_roots_lent(&rest.tables, EDITION, rest.words, rest.space.used,
+                                                          heap.roots, heap.root_count, &rest.surveys[0]);
+    uint32_t parts = 1, k;
+    if (a.status == COMPRESSOR_OUT_OF_MEMORY) return 0;
+    if (a.status != COMPRESSOR_DONE) heap_broken("compressor_survey_by_roots_lent", a);
+    while (parts < heap.options.evaluators &&
+           compressor_survey_share(&rest.surveys[0], &rest.surveys[parts]).status == COMPRESSOR_DONE)
+        parts++;
+    rest.live = a.value;
+    rest.begun = rest.done = 0;
+    rest.parts = parts;
+    pthread_cond_broadcast(&heap.changed);
+    while (help()) continue;
+    while (rest.done < parts) pthread_cond_wait(&heap.changed, &heap.lock);
+    for (k = 1; k < parts; k++) compressor_survey_drop(&rest.surveys[k]);
+    a = compressor_survey_return(&rest.surveys[0], &rest.tables);
+    if (a.status != COMPRESSOR_DONE) heap_broken("compressor_survey_return", a);
+    rest.words = rest.second;
+    rest.second = old;
+    rest.turns_of_all++;
+    return 1;
+}
+
+static void collect_in_place(void) {
+    const compressor_answer a = compressor_collect_in_place_lent(&rest.tables, EDITION, rest.words, rest.space.used,
+                                                                 heap.roots, heap.root_count);
+    if (a.status != COMPRESSOR_DONE) heap_broken("compressor_collect_in_place_lent", a);
+    rest.live = a.value;
+}
+
+static const char *turn(void) {
+    const uint64_t since = heap_now();
+    const char *fault;
+    if (!rest.second || heap.live <= LARGE || !collect_by_all()) collect_in_place();
+    fault = deal(rest.live);
+    heap_time(&collection, since);
+    return fault;
+}
+
+static void wake(void) {}
+
+static const char *end(void) {
+    compressor_tables_drop(&rest.tables);
+    free(rest.words);
+    free(rest.second);
+    return NULL;
+}
+
+static void tell(FILE *to) {
+    heap_tell_parts(to, &collection, 1);
+    fprintf(to, "collections by all evaluators %llu\n", (unsigned long long)rest.turns_of_all);
+}
+
+/* Objects. */
+
+/* An object with words of its own. Others may be faster to take what a collection leaves. */
+static uint64_t make_large(evaluator *e, uint64_t header, uint64_t words) {
+    uint64_t made, taken = 0;
+    while ((made = compressor_space_take(&rest.space, words, words, &taken)) == 0) {
+        heap_collect(e);
+        if (words > rest.left) heap_fail(e, "OutOfMemory", "");
+    }
+    *compressor_at(&rest.space, made) = header;
+    return made;
+}
+
+static void make(evaluator *e, slot to, uint32_t refs, uint32_t data_words, uint32_t kind) {
+    const uint64_t header = heap_header(refs, data_words, kind), words = (uint64_t)1 + refs + data_words;
+    if (words > MOST_WORDS) {
+        e->stack[to] = make_large(e, header, words);
+        return;
+    }
+    /* a new buffer has room for any other object */
+    while (e->buffer.end - e->buffer.at < words) heap_collect(e);
+    e->stack[to] = compressor_new(&rest.space, &e->buffer, header, words);
+}
+
+static uint32_t kind_of(evaluator *e, slot object) {
+    return COMPRESSOR_TAG_OF(*compressor_at(&rest.space, e->stack[object]));
+}
+
+static void ref(evaluator *e, slot to, slot object, uint32_t field) {
+    e->stack[to] = compressor_load_acquire(&rest.space, e->stack[object], field);
+}
+
+static void set_ref(evaluator *e, slot object, uint32_t field, slot value) {
+    compressor_store_release(&rest.space, e->stack[object], field, e->stack[value]);
+}
+
+/* Where data word `field` of an object is, counted behind its header. */
+static uint64_t data_place(uint64_t object, uint32_t field) {
+    return (uint64_t)compressor_shape_at(&rest.space, object).refs + field;
+}
+
+static uint64_t word(evaluator *e, slot object, uint32_t field) {
+    const uint64_t at = e->stack[object];
+    return compressor_load_acquire(&rest.space, at, data_place(at, field));
+}
+
+static void set_word(evaluator *e, slot object, uint32_t field, uint64_t value) {
+    const uint64_t at = e->stack[object];
+    compressor_store_release(&rest.space, at, data_place(at, field), value);
+}
+
+/* An edition's most words of an object: whether there is so much room is another question. */
+const collector collector_at_rest = {"rest", (uint64_t)1 << 31, start, arrive, turn, help, wake, end, tell, make,
+                                     kind_of, ref, set_ref, word, set_word};
