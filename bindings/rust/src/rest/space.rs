@@ -1,0 +1,300 @@
+use alloc::boxed::Box;
+use core::fmt;
+use core::marker::PhantomData;
+use core::mem::swap;
+use core::ptr::{slice_from_raw_parts_mut, NonNull};
+use core::slice;
+use core::sync::atomic::{AtomicU64, Ordering};
+
+use crate::{Edition, Shape, Value, FROM_SPACE};
+
+/// Memory with the words of a heap at rest, which threads share: objects, the one behind the other, and room.
+///
+/// Threads load, store and allocate through `&Space`; a collection wants `&mut Space`. One way is a lock for reading
+/// and writing (`RwLock<Space>`), which each thread holds to read while it runs, and gives back at a safepoint.
+///
+/// An object is the value of its header, and word `k` of it is counted from 0 behind that. Each load and store is
+/// atomic. It is looked at that it stays within the memory, and not what the object's shape says of the word.
+///
+/// Its room is best so large that no step of the runtime fails in its middle: memory that nobody has touched costs
+/// nothing where it comes zeroed from the system, as that of `vec![0; n]` does. A limit below it says when to
+/// collect.
+pub struct Space<'m> {
+    words: NonNull<AtomicU64>,
+    /// How many of them there are.
+    length: usize,
+    /// Whether they are a box of this space.
+    is_owned: bool,
+    pub(super) room: u64,
+    pub(super) used: AtomicU64,
+    limit: u64,
+    pub(super) edition: Edition,
+    /// The address of the first word.
+    pub(super) base: u64,
+    /// How often it was turned.
+    pub(super) turns: u64,
+    /// Buffers of another epoch have no words of this space.
+    pub(super) epoch: u64,
+    memory: PhantomData<&'m mut [u64]>,
+}
+
+// SAFETY: a space owns its words, or has them alone for 'm, as `&mut [u64]` has; it belongs to no thread.
+unsafe impl Send for Space<'_> {}
+// SAFETY: through `&Space` each access of a word is atomic.
+unsafe impl Sync for Space<'_> {}
+
+/// The number of the next epoch, over all spaces; that of an unused buffer is 0.
+static EPOCHS: AtomicU64 = AtomicU64::new(1);
+
+impl Space<'static> {
+    /// A space in this memory, whose first `used` words are objects. Of more words than the edition allows the first
+    /// ones are used.
+    ///
+    /// # Panics
+    /// If there are not so many words.
+    pub fn new(edition: Edition, memory: Box<[u64]>, used: u64) -> Space<'static> {
+        let length = memory.len();
+        // The box is made again by the drop.
+        let words = NonNull::from(Box::leak(memory)).cast();
+        Space::of(edition, words, length, true, used)
+    }
+}
+
+impl<'m> Space<'m> {
+    /// The same in memory that is lent, as mapped memory.
+    ///
+    /// # Panics
+    /// If there are not so many words.
+    pub fn within(edition: Edition, memory: &'m mut [u64], used: u64) -> Space<'m> {
+        let length = memory.len();
+        Space::of(edition, NonNull::from(memory).cast(), length, false, used)
+    }
+
+    fn of(
+        edition: Edition,
+        words: NonNull<AtomicU64>,
+        length: usize,
+        is_owned: bool,
+        used: u64,
+    ) -> Space<'m> {
+        let mut space = Space {
+            words,
+            length,
+            is_owned,
+            room: 0,
+            used: AtomicU64::new(0),
+            limit: 0,
+            edition,
+            base: FROM_SPACE,
+            turns: 0,
+            epoch: 0,
+            memory: PhantomData,
+        };
+        space.reset(used);
+        space
+    }
+
+    /// Its edition.
+    pub fn edition(&self) -> Edition {
+        self.edition
+    }
+
+    /// How many words it has room for.
+    pub fn room(&self) -> u64 {
+        self.room
+    }
+
+    /// The words of all objects and buffers.
+    pub fn used(&self) -> u64 {
+        self.used.load(Ordering::Relaxed)
+    }
+
+    /// Whether it is time to collect.
+    pub fn is_due(&self) -> bool {
+        self.used() >= self.limit
+    }
+
+    /// From so many words on it is time to collect; after each collection that is all of the room.
+    pub fn set_limit(&mut self, words: u64) {
+        self.limit = words;
+    }
+
+    /// From now on the first `used` words of the memory are objects, and all buffers are empty.
+    ///
+    /// # Panics
+    /// If there is no room for so many words.
+    pub fn reset(&mut self, used: u64) {
+        self.room = self.room_in(self.length, used);
+        *self.used.get_mut() = used;
+        self.limit = self.room;
+        self.base = FROM_SPACE;
+        self.empty_buffers();
+    }
+
+    /// The room that a memory of so many words has here, with so many used ones.
+    fn room_in(&self, length: usize, used: u64) -> u64 {
+        let room = self.edition.max_words().min(length as u64);
+        assert!(used <= room, "a space of {room} words has not {used}");
+        room
+    }
+
+    /// From now on no buffer has words of this space.
+    pub(super) fn empty_buffers(&mut self) {
+        self.epoch = EPOCHS.fetch_add(1, Ordering::Relaxed);
+    }
+
+    /// The object at this index.
+    pub(super) fn object_at(&self, index: u64) -> Value {
+        Value::of_word(self.base + index)
+    }
+
+    /// The memories of two spaces change places. The first `used` words of this one's are objects then; the other one
+    /// has none.
+    ///
+    /// # Panics
+    /// If there is no room for so many words.
+    pub fn exchange(&mut self, other: &mut Space<'m>, used: u64) {
+        self.room_in(other.length, used);
+        swap(&mut self.words, &mut other.words);
+        swap(&mut self.length, &mut other.length);
+        swap(&mut self.is_owned, &mut other.is_owned);
+        other.reset(0);
+        self.reset(used);
+    }
+
+    /// The used words, as plain ones.
+    pub fn words(&mut self) -> &mut [u64] {
+        let used = *self.used.get_mut() as usize;
+        &mut self.memory()[..used]
+    }
+
+    /// All words that it has room for, as plain ones.
+    pub fn memory(&mut self) -> &mut [u64] {
+        // SAFETY: `room` is at most the length of the words, and nobody else has a reference to them.
+        unsafe { slice::from_raw_parts_mut(self.words.as_ptr().cast(), self.room as usize) }
+    }
+
+    pub(super) fn cells(&self) -> &[AtomicU64] {
+        // SAFETY: `room` is at most the length of the words. A `u64` has the layout of an `AtomicU64` here.
+        unsafe { slice::from_raw_parts(self.words.as_ptr(), self.room as usize) }
+    }
+
+    /// The word of the memory that is so many words behind the header of an object.
+    #[inline]
+    fn cell(&self, object: Value, behind: u64) -> Option<&AtomicU64> {
+        let index = object.word().wrapping_sub(self.base).checked_add(behind)?;
+        self.cells().get(index as usize)
+    }
+
+    /// Word `k` of an object.
+    #[inline]
+    fn word(&self, object: Value, k: u64) -> &AtomicU64 {
+        match k.checked_add(1).and_then(|behind| self.cell(object, behind)) {
+            Some(cell) => cell,
+            None => nowhere(object, k),
+        }
+    }
+
+    /// Word `k` of an object, as a value.
+    ///
+    /// # Panics
+    /// If the object is null or an immediate, or the word is not in the memory.
+    #[inline]
+    pub fn load(&self, object: Value, k: u64) -> Value {
+        Value::of_word(self.load_word(object, k))
+    }
+
+    /// Word `k` of an object.
+    ///
+    /// # Panics
+    /// As [`load`](Space::load).
+    #[inline]
+    pub fn load_word(&self, object: Value, k: u64) -> u64 {
+        self.word(object, k).load(Ordering::Relaxed)
+    }
+
+    /// Word `k` of an object, and what another thread wrote before it stored the value by
+    /// [`store_release`](Space::store_release).
+    ///
+    /// # Panics
+    /// As [`load`](Space::load).
+    #[inline]
+    pub fn load_acquire(&self, object: Value, k: u64) -> Value {
+        Value::of_word(self.word(object, k).load(Ordering::Acquire))
+    }
+
+    /// Stores a value as word `k` of an object.
+    ///
+    /// # Panics
+    /// As [`load`](Space::load).
+    #[inline]
+    pub fn store(&self, object: Value, k: u64, value: Value) {
+        self.store_word(object, k, value.word());
+    }
+
+    /// Stores a word as word `k` of an object.
+    ///
+    /// # Panics
+    /// As [`load`](Space::load).
+    #[inline]
+    pub fn store_word(&self, object: Value, k: u64, word: u64) {
+        self.word(object, k).store(word, Ordering::Relaxed);
+    }
+
+    /// Stores a value, behind all that this thread wrote before: so it shows a new object to others.
+    ///
+    /// # Panics
+    /// As [`load`](Space::load).
+    #[inline]
+    pub fn store_release(&self, object: Value, k: u64, value: Value) {
+        self.word(object, k).store(value.word(), Ordering::Release);
+    }
+
+    /// The shape of an object.
+    ///
+    /// # Panics
+    /// If it is not in the memory.
+    pub fn shape(&self, object: Value) -> Shape {
+        let header = self.cell(object, 0).expect("an object in this space");
+        Shape::of(self.edition, header.load(Ordering::Relaxed))
+    }
+
+    /// For debugging: the object of the row from the first word on that has the word with this index, as a refusal
+    /// names it. Looks at one object after the other.
+    pub fn object_around(&self, index: u64) -> Option<Value> {
+        let mut at = 0;
+        while at < self.used() {
+            let words = self.shape(self.object_at(at)).words();
+            if index.wrapping_sub(at) < words {
+                return Some(self.object_at(at));
+            }
+            at += words;
+        }
+        None
+    }
+}
+
+#[cold]
+fn nowhere(object: Value, k: u64) -> ! {
+    panic!("{object:?} has no word {k} in this space")
+}
+
+impl Drop for Space<'_> {
+    fn drop(&mut self) {
+        if self.is_owned {
+            let words = slice_from_raw_parts_mut(self.words.as_ptr().cast::<u64>(), self.length);
+            // SAFETY: these words came from a box of so many, and nobody else has them.
+            drop(unsafe { Box::from_raw(words) });
+        }
+    }
+}
+
+impl fmt::Debug for Space<'_> {
+    fn fmt(&self, to: &mut fmt::Formatter<'_>) -> fmt::Result {
+        to.debug_struct("Space")
+            .field("edition", &self.edition)
+            .field("room", &self.room)
+            .field("used", &self.used())
+            .finish_non_exhaustive()
+    }
+}

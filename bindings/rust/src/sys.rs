@@ -1,0 +1,186 @@
+//! The calls of compressor.h, in its order. tests/header.rs compares them with it.
+//!
+//! What the header asks of its callers types keep. A handle is a struct that cannot be copied, and is made empty
+//! here; a reference to it is unique, and not null. A call whose parameters are such references and numbers is safe.
+//! One that takes arrays is not: each is a slice's pointer and its length, or a struct that outlives the call. Slices
+//! of one call that are written overlap no other one, since they are borrowed.
+
+use core::ffi::c_void;
+use core::ptr::null_mut;
+
+/// Handles, each of its kind.
+macro_rules! handles {
+    ($($name:ident)*) => {
+        $(
+            #[repr(C)]
+            pub struct $name {
+                at: *mut c_void,
+            }
+
+            impl $name {
+                pub const EMPTY: $name = $name { at: null_mut() };
+            }
+        )*
+    };
+}
+
+handles! { Heap Plan Crew Mutator End Survey Tables Job }
+
+/// What each call answers: `status` 0 and the value, or the numbers of a refusal.
+#[repr(C)]
+#[derive(Clone, Copy, Debug)]
+pub struct Answer {
+    pub status: u32,
+    pub other: u32,
+    pub value: u64,
+}
+
+/// An entry of a journal.
+#[repr(C)]
+#[derive(Default)]
+pub struct Entry {
+    pub stamp: u64,
+    pub value: u64,
+    pub writer: u8,
+    pub kind: u8,
+    pub offset: u8,
+    pub unused: [u8; 5],
+}
+
+/// The counts of a survey.
+#[repr(C)]
+#[derive(Default)]
+pub struct SurveyFacts {
+    pub live_words: u64,
+}
+
+use crate::flipped::{EndFacts, HeapFacts, MutatorFacts, PlanFacts};
+
+const _: () = assert!(size_of::<usize>() == 8 && size_of::<Heap>() == 8);
+const _: () = assert!(size_of::<Answer>() == 16 && size_of::<Entry>() == 24);
+const _: () = assert!(size_of::<HeapFacts>() == 32 && size_of::<PlanFacts>() == 40);
+const _: () = assert!(size_of::<MutatorFacts>() == 64 && size_of::<EndFacts>() == 48);
+const _: () = assert!(size_of::<SurveyFacts>() == 8);
+
+#[rustfmt::skip]
+unsafe extern "C" {
+    pub safe fn compressor_version() -> u32;
+
+    pub fn compressor_collect(
+        edition: u32, words: *const u64, word_count: usize, roots: *mut u64, root_count: usize,
+        to: *mut u64, to_count: usize) -> Answer;
+    pub fn compressor_collect_in_place(
+        edition: u32, words: *mut u64, word_count: usize, roots: *mut u64,
+        root_count: usize) -> Answer;
+    pub fn compressor_survey_by_roots(
+        edition: u32, words: *const u64, word_count: usize, roots: *const u64, root_count: usize,
+        survey: &mut Survey) -> Answer;
+    pub fn compressor_survey_by_marks(
+        edition: u32, words: *const u64, word_count: usize, roots: *const u64, root_count: usize,
+        marks: *const u64, block_count: usize, survey: &mut Survey) -> Answer;
+    pub safe fn compressor_survey_facts_of(survey: &mut Survey, facts: &mut SurveyFacts) -> Answer;
+    pub safe fn compressor_survey_share(survey: &mut Survey, other: &mut Survey) -> Answer;
+    pub fn compressor_survey_slide(
+        survey: &mut Survey, words: *const u64, word_count: usize, first: u64, part: *mut u64,
+        part_count: usize) -> Answer;
+    pub fn compressor_survey_forward(
+        survey: &mut Survey, roots: *mut u64, root_count: usize) -> Answer;
+    pub fn compressor_survey_forward_weak(
+        survey: &mut Survey, words: *mut u64, word_count: usize) -> Answer;
+    pub safe fn compressor_survey_drop(survey: &mut Survey);
+
+    pub safe fn compressor_tables_reserve(words: u64, tables: &mut Tables) -> Answer;
+    pub fn compressor_collect_lent(
+        tables: &mut Tables, edition: u32, words: *const u64, word_count: usize, roots: *mut u64,
+        root_count: usize, to: *mut u64, to_count: usize) -> Answer;
+    pub fn compressor_collect_in_place_lent(
+        tables: &mut Tables, edition: u32, words: *mut u64, word_count: usize, roots: *mut u64,
+        root_count: usize) -> Answer;
+    pub fn compressor_survey_by_roots_lent(
+        tables: &mut Tables, edition: u32, words: *const u64, word_count: usize, roots: *const u64,
+        root_count: usize, survey: &mut Survey) -> Answer;
+    pub safe fn compressor_survey_return(survey: &mut Survey, tables: &mut Tables) -> Answer;
+    pub safe fn compressor_tables_drop(tables: &mut Tables);
+
+    pub fn compressor_job_begin(
+        edition: u32, words: *const u64, word_count: usize, roots: *const u64, root_count: usize,
+        job: &mut Job) -> Answer;
+    pub safe fn compressor_job_share(job: &mut Job, other: &mut Job) -> Answer;
+    pub safe fn compressor_job_help(job: &mut Job, who: u64) -> Answer;
+    pub safe fn compressor_job_finish(job: &mut Job, survey: &mut Survey) -> Answer;
+    pub safe fn compressor_job_drop(job: &mut Job);
+
+    pub fn compressor_heap_by_marks(
+        edition: u32, words: *const u64, word_count: usize, marks: *const u32, mark_count: usize,
+        roots: *const u64, root_count: usize, heap: &mut Heap) -> Answer;
+    pub fn compressor_heap_by_roots(
+        edition: u32, words: *const u64, word_count: usize, roots: *const u64, root_count: usize,
+        heap: &mut Heap) -> Answer;
+    pub safe fn compressor_heap_facts_of(heap: &mut Heap, facts: &mut HeapFacts) -> Answer;
+    pub fn compressor_heap_read(bytes: *const u8, count: usize, heap: &mut Heap) -> Answer;
+    pub fn compressor_heap_write(heap: &mut Heap, out: *mut u8, count: usize) -> Answer;
+    pub fn compressor_heap_judge(heap: &mut Heap, bytes: *const u8, count: usize) -> Answer;
+    pub safe fn compressor_heap_plan(heap: &mut Heap, plan: &mut Plan) -> Answer;
+    pub safe fn compressor_heap_drop(heap: &mut Heap);
+
+    pub safe fn compressor_plan_facts_of(plan: &mut Plan, facts: &mut PlanFacts) -> Answer;
+    pub safe fn compressor_plan_share(plan: &mut Plan, other: &mut Plan) -> Answer;
+    pub fn compressor_plan_forward(plan: &mut Plan, addresses: *mut u64, count: usize) -> Answer;
+    pub safe fn compressor_plan_page(plan: &mut Plan, page: u64, out: &mut [u64; 64]) -> Answer;
+    pub safe fn compressor_plan_flip(
+        plan: &mut Plan, mutators: u32, fresh_pages: u32, crew: &mut Crew) -> Answer;
+    pub fn compressor_plan_audit(
+        plan: &mut Plan, bytes: *const u8, count: usize, options: u32) -> Answer;
+    pub fn compressor_plan_explain(
+        plan: &mut Plan, bytes: *const u8, count: usize, options: u32, out: *mut u8,
+        out_count: usize) -> Answer;
+    pub safe fn compressor_plan_drop(plan: &mut Plan);
+
+    pub safe fn compressor_crew_take(crew: &mut Crew, mutator: &mut Mutator) -> Answer;
+    pub safe fn compressor_crew_give(crew: &mut Crew, mutator: &mut Mutator) -> Answer;
+    pub safe fn compressor_crew_finish(crew: &mut Crew, end: &mut End) -> Answer;
+    pub safe fn compressor_crew_drop(crew: &mut Crew);
+
+    pub safe fn compressor_mutator_read_ref(
+        mutator: &mut Mutator, object: u64, field: u32) -> Answer;
+    pub safe fn compressor_mutator_read_weak(
+        mutator: &mut Mutator, object: u64, field: u32) -> Answer;
+    pub safe fn compressor_mutator_read_data(
+        mutator: &mut Mutator, object: u64, field: u32) -> Answer;
+    pub safe fn compressor_mutator_header(mutator: &mut Mutator, object: u64) -> Answer;
+    pub safe fn compressor_mutator_write_ref(
+        mutator: &mut Mutator, object: u64, field: u32, value: u64) -> Answer;
+    pub safe fn compressor_mutator_write_weak(
+        mutator: &mut Mutator, object: u64, field: u32, value: u64) -> Answer;
+    pub safe fn compressor_mutator_write_data(
+        mutator: &mut Mutator, object: u64, field: u32, value: u64) -> Answer;
+    pub safe fn compressor_mutator_alloc(mutator: &mut Mutator, header: u64) -> Answer;
+    pub safe fn compressor_mutator_touch(mutator: &mut Mutator, page: u64) -> Answer;
+    pub safe fn compressor_mutator_page(
+        mutator: &mut Mutator, page: u64, out: &mut [u64; 64]) -> Answer;
+    pub safe fn compressor_mutator_root(mutator: &mut Mutator, number: u64) -> Answer;
+    pub fn compressor_mutator_roots(mutator: &mut Mutator, out: *mut u64, count: usize) -> Answer;
+    pub safe fn compressor_mutator_build(mutator: &mut Mutator, number: u64) -> Answer;
+    pub safe fn compressor_mutator_facts_of(
+        mutator: &mut Mutator, facts: &mut MutatorFacts) -> Answer;
+    pub safe fn compressor_mutator_meet(mutator: &mut Mutator, other: &mut Mutator) -> Answer;
+    pub safe fn compressor_mutator_drop(mutator: &mut Mutator);
+
+    pub safe fn compressor_end_facts_of(end: &mut End, facts: &mut EndFacts) -> Answer;
+    pub safe fn compressor_end_page(end: &mut End, page: u64, out: &mut [u64; 64]) -> Answer;
+    pub safe fn compressor_end_entry(
+        end: &mut End, page: u64, number: u64, entry: &mut Entry) -> Answer;
+    pub fn compressor_end_roots(end: &mut End, out: *mut u64, count: usize) -> Answer;
+    pub safe fn compressor_end_builds(end: &mut End, mutator: u32) -> Answer;
+    pub safe fn compressor_end_build(end: &mut End, mutator: u32, number: u64) -> Answer;
+    pub fn compressor_end_next_by_marks(
+        end: &mut End, marks: *const u32, mark_count: usize, roots: *const u64, root_count: usize,
+        heap: &mut Heap) -> Answer;
+    pub fn compressor_end_next_by_roots(
+        end: &mut End, roots: *const u64, root_count: usize, heap: &mut Heap) -> Answer;
+    pub fn compressor_end_rest(
+        end: &mut End, words: *mut u64, word_count: usize, roots: *mut u64,
+        root_count: usize) -> Answer;
+    pub fn compressor_end_write(end: &mut End, out: *mut u8, count: usize) -> Answer;
+    pub safe fn compressor_end_drop(end: &mut End);
+}

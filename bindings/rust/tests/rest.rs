@@ -1,0 +1,371 @@
+//! Heaps at rest: lists survive, garbage goes, and values are forwarded.
+
+use std::sync::RwLock;
+use std::thread;
+
+use compressor::rest::{Buffer, Help, Job, Space, Survey, Tables, CHUNK};
+use compressor::{Edition, Refusal, Shape, Value};
+
+const THREADS: usize = 4;
+const PAIRS: u64 = 20_000;
+const ROOM: usize = 3 * PAIRS as usize + CHUNK as usize;
+
+fn number(n: u64) -> Value {
+    Value::fixnum(n as i64).expect("a small number")
+}
+
+fn header(refs: u32, weak: u32) -> u64 {
+    Shape { refs, weak, data: 0, tag: 7 }.header(Edition::Four).expect("a shape of edition four")
+}
+
+fn space() -> Space<'static> {
+    Space::new(Edition::Four, vec![0; ROOM].into(), 0)
+}
+
+fn pair(space: &Space, buffer: &mut Buffer, first: Value, rest: Value) -> Value {
+    let made = space.alloc(buffer, header(2, 0)).expect("room");
+    space.store(made, 0, first);
+    space.store(made, 1, rest);
+    made
+}
+
+/// Lists of the numbers k, k + 4, k + 8 .., of which every second pair is dropped again.
+fn make_lists(space: &Space) -> [Value; THREADS] {
+    let (mut buffer, mut roots) = (Buffer::default(), [Value::NULL; THREADS]);
+    for n in 0..PAIRS {
+        let k = n as usize % THREADS;
+        let made = pair(space, &mut buffer, number(n), roots[k]);
+        if n / THREADS as u64 % 2 == 0 {
+            roots[k] = made;
+        }
+    }
+    roots
+}
+
+fn numbers(space: &Space, list: Value) -> Vec<i64> {
+    let (mut all, mut at) = (Vec::new(), list);
+    while at.is_reference() {
+        all.push(space.load(at, 0).as_fixnum().expect("a number"));
+        at = space.load(at, 1);
+    }
+    all
+}
+
+fn check_lists(space: &Space, roots: &[Value]) {
+    let (threads, pairs) = (THREADS as i64, PAIRS as i64);
+    for (k, &root) in (0..).zip(roots) {
+        let wanted: Vec<i64> =
+            (0..pairs / threads / 2).map(|n| k + 2 * threads * n).rev().collect();
+        assert_eq!(numbers(space, root), wanted);
+    }
+}
+
+#[test]
+fn lists_survive_in_place() {
+    let mut space = space();
+    let mut roots = make_lists(&space);
+    check_lists(&space, &roots);
+    assert_eq!(space.collect(&mut roots), Ok(3 * PAIRS / 2));
+    assert_eq!(space.used(), 3 * PAIRS / 2);
+    check_lists(&space, &roots);
+    assert_eq!(space.collect(&mut roots[..1]), Ok(3 * PAIRS / 8));
+    check_lists(&space, &roots[..1]);
+    assert_eq!(space.collect(&mut []), Ok(0));
+}
+
+#[test]
+fn lists_survive_in_another_memory() {
+    let mut mapped = vec![5; ROOM];
+    let mut space = Space::within(Edition::Four, &mut mapped, 0);
+    let mut other = Space::new(Edition::Four, vec![9; ROOM].into(), 17);
+    let mut roots = make_lists(&space);
+    for _ in 0..3 {
+        assert_eq!(space.collect_into(&mut other, &mut roots), Ok(3 * PAIRS / 2));
+        check_lists(&space, &roots);
+        assert_eq!(other.used(), 0);
+    }
+    let mut short = Space::new(Edition::Four, vec![1; 7].into(), 0);
+    let before = roots;
+    let refused = space.collect_into(&mut short, &mut roots);
+    assert_eq!(refused, Err(Refusal::TooShort { length: 3 * PAIRS / 2, which: 0 }));
+    assert_eq!((roots, short.memory()), (before, &mut [1; 7][..]));
+    check_lists(&space, &roots);
+}
+
+#[test]
+fn collections_by_tables_take_them_again_and_again() {
+    let (mut space, mut other) = (space(), space());
+    let mut roots = make_lists(&space);
+    let mut tables = Tables::reserve(ROOM as u64).unwrap();
+    assert_eq!(space.collect_lent(&mut tables, &mut roots), Ok(3 * PAIRS / 2));
+    check_lists(&space, &roots);
+    let live = space.collect_into_lent(&mut tables, &mut other, &mut roots);
+    assert_eq!(live, Ok(3 * PAIRS / 2));
+    check_lists(&space, &roots);
+    let mut few = Tables::reserve(64).unwrap();
+    let refused = space.collect_lent(&mut few, &mut roots);
+    assert_eq!(refused, Err(Refusal::ShortTables { words: 64 }));
+    check_lists(&space, &roots);
+}
+
+#[test]
+fn a_weak_word_goes_with_its_object() {
+    let mut space = space();
+    let mut buffer = Buffer::default();
+    let dead = pair(&space, &mut buffer, number(1), Value::NULL);
+    let live = pair(&space, &mut buffer, number(2), Value::NULL);
+    let table = space.alloc(&mut buffer, header(0, 3)).unwrap();
+    for (k, value) in [dead, live, number(3)].into_iter().enumerate() {
+        space.store(table, k as u64, value);
+    }
+    let mut roots = [live, table, number(-4i64 as u64)];
+    assert_eq!(space.collect(&mut roots), Ok(3 + 4));
+    let [live, table, immediate] = roots;
+    assert_eq!((live, immediate), (Value::at(0), number(-4i64 as u64)));
+    assert_eq!(space.load(table, 0), Value::NULL);
+    assert_eq!(space.load(table, 1), live);
+    assert_eq!(space.load(table, 2), number(3));
+    assert_eq!(space.shape(table), Shape { refs: 0, weak: 3, data: 0, tag: 7 });
+    assert_eq!(space.object_around(4), Some(table));
+    assert_eq!(space.object_around(7), None);
+}
+
+#[test]
+fn large_objects_have_the_shapes_that_headers_say() {
+    const MANY: u32 = 70_000;
+    let shapes = [
+        Shape { refs: MANY, data: 3, tag: 16383, ..Shape::default() },
+        Shape { data: MANY, refs: 3, tag: 1, ..Shape::default() },
+        Shape { weak: MANY, data: 3, tag: 2, ..Shape::default() },
+        Shape { refs: 1, weak: 65535, data: 65535, tag: 3 },
+    ];
+    let memory = vec![0; 5 * MANY as usize].into();
+    let mut space = Space::new(Edition::Three, memory, 0);
+    let mut buffer = Buffer::default();
+    let header = |shape: Shape| shape.header(Edition::Three).unwrap();
+    let dead = space.alloc(&mut buffer, 0).unwrap();
+    let mut roots = shapes.map(|it| space.alloc(&mut buffer, header(it)).unwrap());
+    let [refs, data, weak, mixed] = roots;
+    space.store(refs, u64::from(MANY) - 1, data);
+    space.store(data, 2, weak);
+    space.store_word(data, u64::from(MANY) + 2, 5);
+    space.store(weak, u64::from(MANY) - 1, dead);
+    space.store_word(weak, u64::from(MANY), dead.word());
+    space.store(mixed, 65535, mixed);
+    assert_eq!(space.alloc(&mut buffer, header(shapes[0])), None);
+    assert_eq!(space.collect(&mut roots), Ok(shapes.iter().map(|it| it.words()).sum()));
+    let [refs, data, weak, mixed] = roots;
+    assert_eq!(roots.map(|it| space.shape(it)), shapes);
+    assert_eq!(space.load(refs, u64::from(MANY) - 1), data);
+    assert_eq!(space.load(data, 2), weak);
+    assert_eq!(space.load_word(data, u64::from(MANY) + 2), 5);
+    assert_eq!(space.load(weak, u64::from(MANY) - 1), Value::NULL);
+    assert_eq!(space.load_word(weak, u64::from(MANY)), dead.word());
+    assert_eq!(space.load(mixed, 65535), mixed);
+}
+
+/// Each thread slides a part by a share of its own, and forwards a root, if one is left.
+fn slide_by_threads(
+    survey: &mut Survey,
+    space: &mut Space<'static>,
+    to: &mut Space<'static>,
+    roots: &mut [Value],
+) {
+    let live = survey.live_words();
+    let each = live.div_ceil(THREADS as u64).max(1);
+    let words = &*space.words();
+    thread::scope(|scope| {
+        let mut roots = roots.chunks_mut(1);
+        for (k, part) in (0..).zip(to.memory()[..live as usize].chunks_mut(each as usize)) {
+            let mut own = survey.share().unwrap();
+            let root = roots.next().unwrap_or_default();
+            scope.spawn(move || {
+                own.slide(words, k * each, part).unwrap();
+                own.forward(root).unwrap();
+            });
+        }
+    });
+    space.exchange(to, live);
+}
+
+#[test]
+fn four_threads_slide_what_was_surveyed() {
+    let (mut space, mut to) = (space(), space());
+    let mut roots = make_lists(&space);
+    let tables = Tables::reserve(ROOM as u64).unwrap();
+    let made = Survey::by_roots_lent(tables, Edition::Four, space.words(), &roots);
+    let mut survey = made.unwrap();
+
+    let mut part = [5, 6];
+    let used = space.used();
+    assert_eq!(survey.slide(space.words(), used, &mut part), Err(Refusal::NoSuchPart));
+    assert_eq!(survey.slide(&space.words()[1..], 0, &mut part), Err(Refusal::OtherCount));
+    assert_eq!(part, [5, 6]);
+    let mut strays = [roots[0], Value::at(1)];
+    assert_eq!(survey.forward(&mut strays), Err(Refusal::BadRoot { number: 1 }));
+    assert_eq!(strays, [roots[0], Value::at(1)]);
+    assert_eq!(survey.forward_weak(&mut strays[1..]), 1);
+    assert_eq!(strays[1], Value::NULL);
+
+    slide_by_threads(&mut survey, &mut space, &mut to, &mut roots);
+    assert_eq!(space.used(), 3 * PAIRS / 2);
+    check_lists(&space, &roots);
+
+    let share = survey.share().unwrap();
+    let refused = survey.into_tables().unwrap_err();
+    assert_eq!(refused.refusal, Refusal::StillShared);
+    drop(share);
+    let mut tables = refused.back.into_tables().unwrap().expect("tables that were lent");
+    assert_eq!(space.collect_lent(&mut tables, &mut roots[..2]), Ok(3 * PAIRS / 4));
+    check_lists(&space, &roots[..2]);
+}
+
+#[test]
+fn words_that_changed_are_seen() {
+    let mut space = space();
+    let mut buffer = Buffer::default();
+    let made = pair(&space, &mut buffer, Value::NULL, Value::NULL);
+    space.set_limit(3);
+    assert!(space.is_due());
+    let mut survey = Survey::by_roots(Edition::Four, space.words(), &[made]).unwrap();
+    let mut part = [0; 3];
+    space.store(made, 0, Value::at(2));
+    let slid = survey.slide(space.words(), 0, &mut part);
+    assert_eq!(slid, Err(Refusal::Unmarked { index: 1 }));
+    space.words()[0] = header(1, 0);
+    let slid = survey.slide(space.words(), 0, &mut part);
+    assert_eq!(slid, Err(Refusal::Changed { index: 0 }));
+    assert!(survey.into_tables().unwrap().is_none());
+}
+
+#[test]
+fn marks_of_the_runtime_are_taken() {
+    let (mut space, mut to) = (space(), space());
+    let mut roots = make_lists(&space);
+    let mut marks = vec![0; (space.used() as usize).div_ceil(64)];
+    for &root in &roots[..2] {
+        let mut at = root;
+        while at.is_reference() {
+            let index = at.word() - Value::at(0).word();
+            marks[index as usize / 64] |= 1 << (index % 64);
+            at = space.load(at, 1);
+        }
+    }
+    let survey = |space: &mut Space, roots: &[Value], marks: &[u64]| {
+        Survey::by_marks(Edition::Four, space.words(), roots, marks)
+    };
+    let refused = survey(&mut space, &roots, &marks).unwrap_err();
+    assert_eq!(refused, Refusal::BadRoot { number: 2 });
+    let refused = survey(&mut space, &roots[..2], &marks[1..]).unwrap_err();
+    assert_eq!(refused, Refusal::WrongLength);
+    let mut survey = survey(&mut space, &roots[..2], &marks).unwrap();
+    slide_by_threads(&mut survey, &mut space, &mut to, &mut roots[..2]);
+    assert_eq!(space.used(), 3 * PAIRS / 4);
+    check_lists(&space, &roots[..2]);
+}
+
+#[test]
+fn four_threads_mark() {
+    let (mut space, mut to) = (space(), space());
+    let mut roots = make_lists(&space);
+    let mut job = Job::begin(Edition::Four, space.words(), &roots).unwrap();
+    let shares: Vec<Job> = (0..THREADS).map(|_| job.share().unwrap()).collect();
+    let refused = job.finish().unwrap_err();
+    assert_eq!(refused.refusal, Refusal::StillShared);
+    thread::scope(|scope| {
+        for (who, mut own) in (0..).zip(shares) {
+            scope.spawn(move || while own.help(who) != Help::Done {});
+        }
+    });
+    let mut job = refused.back.expect("the job comes back");
+    assert_eq!(job.help(0), Help::Done);
+    let mut survey = job.finish().unwrap();
+    assert_eq!(survey.live_words(), 3 * PAIRS / 2);
+    slide_by_threads(&mut survey, &mut space, &mut to, &mut roots);
+    check_lists(&space, &roots);
+}
+
+#[test]
+fn a_job_of_a_bad_heap_is_gone() {
+    let job = Job::begin(Edition::Four, &[0, 0], &[Value::at(2)]).unwrap();
+    let refused = job.finish().unwrap_err();
+    assert_eq!(refused.refusal, Refusal::BadRoot { number: 0 });
+    assert!(refused.back.is_none());
+}
+
+#[test]
+fn a_space_that_is_turned_finds_what_was_forgotten() {
+    let mut space = space();
+    let mut roots = make_lists(&space);
+    for turns in 0..3 {
+        space.collect(&mut roots).unwrap();
+        space.turn(&mut roots).unwrap();
+        check_lists(&space, &roots);
+        let mut buffer = Buffer::default();
+        let made = pair(&space, &mut buffer, Value::NULL, roots[turns]);
+        assert_eq!(numbers(&space, space.load(made, 1)), numbers(&space, roots[turns]));
+    }
+    let forgotten = roots[0];
+    space.collect(&mut roots).unwrap();
+    space.turn(&mut roots).unwrap();
+    assert_eq!(space.turn(&mut [forgotten]), Err(Refusal::BadRoot { number: 0 }));
+    let first = space.object_around(0).unwrap();
+    space.store(first, 1, forgotten);
+    assert_eq!(space.collect(&mut roots), Err(Refusal::BadReference { index: 2 }));
+}
+
+#[test]
+#[should_panic(expected = "has no word 0 in this space")]
+fn a_value_of_before_a_turn_leads_nowhere() {
+    let mut space = space();
+    let mut roots = make_lists(&space);
+    let forgotten = roots[0];
+    space.turn(&mut roots).unwrap();
+    space.load(forgotten, 0);
+}
+
+/// Threads make lists and show them to each other; who finds that it is time stops the world and collects.
+#[test]
+fn threads_share_a_space_by_a_lock() {
+    const LIMIT: u64 = ROOM as u64 / 2;
+    let world = RwLock::new((space(), [Value::NULL; THREADS]));
+    {
+        let mut all = world.write().unwrap();
+        let mut buffer = Buffer::default();
+        // The board: an object of one reference for each thread, which is the first root.
+        let board = all.0.alloc(&mut buffer, header(THREADS as u32, 0)).unwrap();
+        all.1[0] = board;
+        all.0.set_limit(LIMIT);
+    }
+    let work = |k: u64| {
+        let mut buffer = Buffer::default();
+        for n in 0..PAIRS {
+            let running = world.read().unwrap();
+            let (space, [board, ..]) = &*running;
+            let list = space.load_acquire(*board, k);
+            let made = pair(space, &mut buffer, number(n), list);
+            if n % 10 == 0 {
+                space.store_release(*board, k, made);
+            }
+            drop(running);
+            if !world.read().unwrap().0.is_due() {
+                continue;
+            }
+            let (space, roots) = &mut *world.write().unwrap();
+            if space.is_due() {
+                space.collect(roots).unwrap();
+                space.set_limit(LIMIT);
+            }
+        }
+    };
+    thread::scope(|scope| {
+        for k in 0..THREADS as u64 {
+            scope.spawn(move || work(k));
+        }
+    });
+    let (space, [board, ..]) = &*world.read().unwrap();
+    for k in 0..THREADS as u64 {
+        let wanted: Vec<i64> = (0..PAIRS as i64 / 10).map(|n| 10 * n).rev().collect();
+        assert_eq!(numbers(space, space.load(*board, k)), wanted);
+    }
+}
