@@ -8,7 +8,7 @@ enum { BY_HAND = 0, EDITION = 4 };
 
 static compressor_crew crew;
 static uint64_t *all_roots;
-static uint64_t flips, budget_pages, compacted_pages;
+static uint64_t budget_pages, compacted_pages;
 
 /* The value of an answer; ends the program if the call was refused. */
 static inline uint64_t done(compressor_answer answer) {
@@ -25,7 +25,7 @@ static inline void flip(compressor_heap *heap) {
     size_t number = 0;
     if (fresh < 16) die("the heap is full");
     done(compressor_heap_plan(heap, &plan));
-    done(compressor_plan_flip(&plan, ++flips, (uint32_t)mutator_count, (uint32_t)(fresh < most ? fresh : most), &crew));
+    done(compressor_plan_flip(&plan, (uint32_t)mutator_count, (uint32_t)(fresh < most ? fresh : most), &crew));
     compressor_plan_drop(&plan);
     for (int k = 0; k < mutator_count; k++) done(compressor_crew_take(&crew, &mutators[k].hand));
     done(compressor_mutator_facts_of(&mutators[0].hand, &facts));
