@@ -1,6 +1,7 @@
-/* Refuses one allocation of a program, whose number, from 1, the environment names in REFUSE, with REFUSE_ON also each later one, and each of more bytes than it names in
-   REFUSE_ABOVE. To be loaded before the C library. Where there is such an allocation, the file that REFUSE_TOLD names is made. It includes nothing: the kit's compiler has no
-   headers. */
+/* Refuses one allocation of a program, whose number, from 1, the environment names in REFUSE, with REFUSE_ON also
+   each later one, and each of more bytes than it names in REFUSE_ABOVE. To be loaded before the C library. Where
+   there is such an allocation, the file that REFUSE_TOLD names is made. It includes nothing: the kit's compiler has
+   no headers. */
 typedef unsigned long size;
 
 extern void *dlsym(void *, const char *);

@@ -55,8 +55,8 @@ pub keeps_written : (u : Setup) (s : State Slot View) (js : Journals) (homes : L
     → Keeps u record { words = set s.words p (get_or s.words p 0); homes = homes; views = views }
 keeps_written u s js homes views p k t = record { journals = js; kept = k; turns = subst (λ (ws : List ℕ). Turns u ws views) (sym (set-get_or s.words p 0)) t }
 
--- the rule holds after a step on word p that changes no word and finds the state word of page p. w is the view after, but
--- for its turns.
+-- the rule holds after a step on word p that changes no word and finds the state word of page p. w is the view after,
+-- but for its turns.
 pub keeps_noticed : (u : Setup) (s : State Slot View) (js : Journals) (id : ℕ) (v w : View) (p : ℕ) (k : Kept u s js)
     → Turns u s.words s.views → get_elem? s.views id ≡ maybe.some v → 0 < v.known.port → w.ended ≡ false → w.known.port ≡ v.known.port → w.told ≡ v.told → w.at ≡ v.at
     → w.last ≡ (p, get_or s.words p 0) ∷ v.last

@@ -2,7 +2,7 @@
 use Rattle.std.proofs.Common.{◌≡◌, ℕ, Bool, List, Option, subst, sym}
 use Rattle.heap_layout.specs.Heap.{Heap}
 use Rattle.command_io.specs.Disk.{Disk}
-use Rattle.command_io.specs.ImageParts.{ArePartsAt, SomePartsAt}
+use Rattle.command_io.specs.PartsAtPath.{ArePartsAt, SomePartsAt}
 use Rattle.command_io.specs.Images.{IsHeapAt, IsImageOf, SomeHeapAt}
 
 -- what holds of the heap of an image

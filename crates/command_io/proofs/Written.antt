@@ -10,7 +10,7 @@ use Rattle.heap_layout.specs.Writing.{AppendsSome}
 use Rattle.comp_dump.specs.declared.fault.DumpFault.{DumpFault}
 use Rattle.comp_dump.specs.declared.fault.DumpFault.TheVariants as dumps
 use Rattle.command_io.specs.Disk.{AfterCreating, Disk, IsOfCreating, IsUnkept, WritesBeginning, WritesWhole}
-use Rattle.command_io.specs.Keeping.{FailsFlush, KeepsAll}
+use Rattle.command_io.specs.KeptFiles.{FailsFlush, KeepsAll}
 use Rattle.command_io.specs.declared.refusal.Output.{Output}
 use Rattle.command_io.specs.declared.refusal.CommandRefusal.{CommandRefusal}
 use Rattle.command_io.specs.declared.refusal.CommandRefusal.TheVariants.{Layout, Mutator, Sweep, Trace, Dump, Audit, Moved, Survey, CannotWrite, CannotOpen, CannotCreate, ReadFailed, CannotPrint, NoSuchWord, BadMarks, OutOfMemory, BadRoots}
@@ -30,8 +30,8 @@ one_is old none = omega (arith, none)
 differ : (output : Output) → CannotCreate output ≡ OutOfMemory → ⊥
 differ output e = cc
 
--- What some writer that a path gives took, if the count began around it. The files are `from` before, `between` once the
--- file was begun, and `to` at the end.
+-- What some writer that a path gives took, if the count began around it. The files are `from` before, `between` once
+-- the file was begun, and `to` at the end.
 module _ {F W : Type 0} (disk : F → Disk F W) (contents : W → Option (List ℕ)) (from between to : F) (same : (w : W) → (disk from).contents w ≡ contents w) (output : Output) (path bytes : List ℕ)
     (made : W) (old new : Counted W) (given : (disk from).makes output path made) (inner : inner_of old ≡ made) (none : failures_of old ≡ 0) where
   -- what the writer's own contract says of what it took
@@ -90,7 +90,8 @@ one_of_dump old new dumps.OutOfMemory is none counts = cc
 pub one_of : (old new : ℕ) → old ≡ 0 → new ≡ one_more old → new ≡ 1
 one_of old new none counts = counts ∙ one_is old none
 
--- what follows from a file that cannot be created, and from missing memory, follows from each refusal to create the file
+-- what follows from a file that cannot be created, and from missing memory, follows from each refusal to create the
+-- file
 pub created : {F W : Type 0} (disk : Disk F W) (output : Output) (path : List ℕ) (to : F) (P : CommandRefusal → Type 0) → (disk.bars output path → disk.counts 1 to → P (CannotCreate output)) → (disk.begins to → P OutOfMemory)
     → (refusal : CommandRefusal) → IsOfCreating output (disk.bars output path) refusal → AfterCreating disk to (Err refusal) → P refusal
 created disk output path to P barred full (Layout fault) h after = absurd h

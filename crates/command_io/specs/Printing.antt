@@ -57,7 +57,7 @@ RefusedUnprinted before after (Ok _) = Unit {0}
 RefusedUnprinted before after (Err CannotPrint) = Unit {0}
 RefusedUnprinted before after (Err _) = Keeps before after
 
--- a refusal for another cause than the output leaves an output flushed that was flushed before: whatever was printed for
--- it was flushed
+-- a refusal for another cause than the output leaves an output flushed that was flushed before: whatever was printed
+-- for it was flushed
 abbrev pub LeavesFlushed : Bool → Bool → CommandRefusal → Type 0
 LeavesFlushed before after refusal = (refusal ≡ CannotPrint → ⊥) → before ≡ true → after ≡ true

@@ -4,7 +4,7 @@ ghost use Rattle.heap_layout.specs.Counted.{inner_of, failures_of};
 ghost use Rattle.heap_layout.specs.ImageParts.{heap_in};
 ghost use Rattle.command_io.specs.Disk.{LeavesRead};
 ghost use Rattle.command_io.specs.Images.{IsHeapAt, IsImageOf, RefusesAt, RefusesImage};
-ghost use Rattle.command_io.specs.ImageParts.{ArePartsAt, ArePartsOf, RefusesImageParts};
+ghost use Rattle.command_io.specs.PartsAtPath.{ArePartsAt, ArePartsOf, RefusesImageParts};
 ghost use Rattle.command_io.specs.Reading.{CountsRead};
 
 use crate::opening::Files;
@@ -52,8 +52,8 @@ fn image_in<S: Read>(
 
 /// Reads the parts of the image at a path, of edition three or four only if `large`. Their heap is not checked: it may
 /// have any fault but `TooLarge`. Refuses if the file cannot be opened or read, if the bytes are no image, if a count
-/// is above its limit, and if memory runs out. The files count a failed call if the refusal names one; else they stay as
-/// they were.
+/// is above its limit, and if memory runs out. The files count a failed call if the refusal names one; else they stay
+/// as they were.
 pub fn parts_at<F: Files>(
     alloc: Global,
     files: &mut F,

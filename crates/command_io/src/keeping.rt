@@ -1,6 +1,6 @@
 //! Keeps what was written.
 ghost use Rattle.std.specs.Prelude.{IfErr, OnOk};
-ghost use Rattle.command_io.specs.Keeping.{IsOfKeeping, KeepsAll};
+ghost use Rattle.command_io.specs.KeptFiles.{IsOfKeeping, KeepsAll};
 
 use crate::flushed::Flushed;
 use crate::opening::Files;

@@ -2,7 +2,7 @@
 ghost use Rattle.std.specs.Prelude.{◌-◌, ◌^◌, ◌<◌, IfOk, IfErr};
 ghost use Rattle.heap_layout.specs.Counted.{inner_of, failures_of};
 ghost use Rattle.command_io.specs.Disk.{LeavesRead};
-ghost use Rattle.command_io.specs.Marks.{AreMarksAt, AreMarksOf, RefusesMarksAt, RefusesMarksText};
+ghost use Rattle.command_io.specs.MarksAtPath.{AreMarksAt, AreMarksOf, RefusesMarksAt, RefusesMarksText};
 ghost use Rattle.command_io.specs.Reading.{CountsRead};
 
 use crate::opening::Files;

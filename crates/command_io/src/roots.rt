@@ -1,9 +1,9 @@
 //! Reads the texts of roots.
 ghost use Rattle.std.specs.Prelude.{◌-◌, ◌^◌, ◌<◌, All, IfOk, IfErr};
 ghost use Rattle.heap_layout.specs.Counted.{inner_of, failures_of};
-ghost use Rattle.comp_trace.specs.Roots.{IsRootWithin};
+ghost use Rattle.comp_trace.specs.RootsText.{IsRootWithin};
 ghost use Rattle.command_io.specs.Disk.{LeavesRead};
-ghost use Rattle.command_io.specs.Roots.{AreRootsAt, AreRootsOf, RefusesRootsAt, RefusesRootsText};
+ghost use Rattle.command_io.specs.RootsAtPath.{AreRootsAt, AreRootsOf, RefusesRootsAt, RefusesRootsText};
 ghost use Rattle.command_io.specs.Reading.{CountsRead};
 
 use crate::opening::Files;

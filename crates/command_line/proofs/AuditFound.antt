@@ -1,11 +1,11 @@
 -- From what the parser found of `audit` to what the words ask.
 use Rattle.std.proofs.Common.{ℕ, List, [], ◌∷◌, codes, refl}
 use Rattle.clap.specs.declared.parser.matches.Found.{Found}
-use Rattle.command_line.specs.Asked.{AsksAudit}
-use Rattle.command_line.specs.Finds.{IsAuditFound, IsAuditRequest}
+use Rattle.command_line.specs.AskedTasks.{AsksAudit}
+use Rattle.command_line.specs.ParserFinds.{IsAuditFound, IsAuditRequest}
 use Rattle.command_line.specs.Forms as forms
 use Rattle.command_line.specs.Forms.{audit_form, explain, large, text, whole}
-use Rattle.command_line.specs.Runs.{Audit}
+use Rattle.command_line.specs.RunArguments.{Audit}
 use Rattle.command_line.proofs.Found.{CommandAsked, argument_reported, argument_there, switch_among}
 
 module _ (words : List (List ℕ)) (f : Found) (asked : CommandAsked words f audit_form) where

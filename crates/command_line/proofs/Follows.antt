@@ -172,8 +172,8 @@ module _ (form : Form) where
       pub switched_end : end_from s (now rows pending position false) (word ∷ words) ≡ end_from s (now (use_of (base rows pending) (w, None)) None position false) words
       switched_end = ap (λ x. end_from s x words) switched_here
 
-  -- what is wrong with the words is what is wrong with these uses, and the rows at the end are theirs, with one for each
-  -- switch that was not given
+  -- what is wrong with the words is what is wrong with these uses, and the rows at the end are theirs, with one for
+  -- each switch that was not given
   pub record Follows (rows : List Row) (pending : Option Value) (position : ℕ) (ended : Bool) (words : List Text) (given : List Use) : Type 0 where
     pub kinds : fault_from s (now rows pending position ended) words ≡ kinds_of rows (and_then pending given)
     pub rows_are : finished s.rules (end_from s (now rows pending position ended) words) ≡ with_switches form.switches (fold use_of rows (and_then pending given))

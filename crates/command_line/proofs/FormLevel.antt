@@ -8,7 +8,7 @@ use Rattle.clap.specs.Lexer.{usize_max}
 use Rattle.clap.specs.Simple.{Shape}
 use Rattle.clap.specs.Walk.{Text, rows_after}
 use Rattle.clap.specs.declared.error.kind.ErrorKind.TheVariants as kind
-use Rattle.command_line.specs.Asked.{is_help}
+use Rattle.command_line.specs.AskedTasks.{is_help}
 use Rattle.command_line.specs.Forms.{Form}
 use Rattle.command_line.specs.Given.{Gives, Use}
 use Rattle.command_line.proofs.KindLists.{NoAnswer, Refuses, no_answer_among}

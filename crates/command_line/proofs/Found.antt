@@ -18,13 +18,13 @@ use Rattle.clap.specs.declared.parser.matches.ArgMatches.TheViews.{out-ArgMatche
 use Rattle.clap.specs.declared.parser.matches.Found.{Found}
 use Rattle.clap.specs.Walk.{row_text, with_default}
 use Rattle.clap.proofs.WalkLemmas.{both, first_value-rows, one_text-rows}
-use Rattle.command_line.specs.Asked.{Asks, AsksCollect, AsksCompact, AsksHelp, AsksMark, AsksNoCommand, AsksPlan, AsksVersion, AsksWord, HasLawfulCounts, IsAnswerOf}
+use Rattle.command_line.specs.AskedTasks.{Asks, AsksCollect, AsksCompact, AsksHelp, AsksMark, AsksNoCommand, AsksPlan, AsksVersion, AsksWord, HasLawfulCounts, IsAnswerOf}
 use Rattle.command_line.specs.Forms.{Choice, Form, Parameter, audit_form, collect_form, compact_form, fresh, large, map_form, mark_form, moved_form, mutators, next_form, number, plan_form, race_form, replay_form, run_form, standing, text, word_form, workers}
 use Rattle.command_line.specs.Given.{HasOption, HasSwitch, IsChosen, IsCommandWith, IsFlag, IsNumber, IsNumberOr, Takes, Use, is_among, text_given}
-use Rattle.command_line.specs.Finds.{IsRunRequest, IsRunFound}
-use Rattle.command_line.specs.Nexts.{says_reachable}
+use Rattle.command_line.specs.ParserFinds.{IsRunRequest, IsRunFound}
+use Rattle.command_line.specs.NextArguments.{says_reachable}
 use Rattle.command_line.specs.Parser.{program}
-use Rattle.command_line.specs.Runs.{AsksRun, Run}
+use Rattle.command_line.specs.RunArguments.{AsksRun, Run}
 use Rattle.command_line.specs.declared.words.Task.{Task}
 use Rattle.command_line.specs.declared.words.Task.TheVariants.{Plan, Word, Replay, Race, Compact, Audit, Next, Mark, Collect, Moved, Map, Help, Version}
 use Rattle.command_line.proofs.Chosen.{HasArgument, among_used, argument_fits, argument_off, first_found, one_found, option_fits, option_off, switch_found}

@@ -12,7 +12,7 @@ use Rattle.clap.specs.Walk.{Text}
 use Rattle.clap.proofs.CutLemmas.{Lacks, before_first-Lacks}
 use Rattle.clap.proofs.LexerLemmas.{name_and_value-at, name_and_value-without}
 use Rattle.clap.proofs.WalkLemmas.{both}
-use Rattle.command_line.specs.Asked.{is_help, is_version}
+use Rattle.command_line.specs.AskedTasks.{is_help, is_version}
 use Rattle.command_line.specs.Given.{is_flag}
 
 -- ---- a word that is no flag

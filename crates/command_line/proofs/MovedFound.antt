@@ -2,7 +2,7 @@
 use Rattle.std.proofs.Common.{◌≡◌, ℕ, Bool, List, Some, codes, refl}
 use Rattle.clap.specs.Words.{first_value, one_text}
 use Rattle.clap.specs.declared.parser.matches.Found.{Found}
-use Rattle.command_line.specs.Asked.{AsksMoved}
+use Rattle.command_line.specs.AskedTasks.{AsksMoved}
 use Rattle.command_line.specs.Forms.{large, moved_form, text}
 use Rattle.command_line.specs.Given.{IsFlag}
 use Rattle.command_line.proofs.Found.{CommandAsked, argument_reported, switch_reported}

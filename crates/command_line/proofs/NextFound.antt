@@ -5,7 +5,7 @@ use Rattle.clap.specs.Words.{first_value, one_text}
 use Rattle.clap.specs.declared.parser.matches.Found.{Found}
 use Rattle.command_line.specs.Forms.{fresh, large, mutators, next_form, reachable, roots, text, workers}
 use Rattle.command_line.specs.Given.{HasOption, IsCommandWith, Takes, text_given}
-use Rattle.command_line.specs.Nexts.{AreWorkers, AreWorkersFound, AsksNext, HasNext, IsMarksFound, IsNextFound, IsRootsFound, IsRootsPath, Next, says_reachable}
+use Rattle.command_line.specs.NextArguments.{AreWorkers, AreWorkersFound, AsksNext, HasNext, IsMarksFound, IsNextFound, IsRootsFound, IsRootsPath, Next, says_reachable}
 use Rattle.command_line.proofs.Chosen.{HasArgument}
 use Rattle.command_line.proofs.Found.{CommandAsked, argument_reported, argument_there, choice_fits, choice_reported, option_read, switch_among}
 use Rattle.command_line.proofs.Reaching.{reachable_said}

@@ -3,10 +3,10 @@ use Rattle.std.proofs.Common.{◌≡◌, ◌∙◌, Bool, suc, true, List, [], �
 use Rattle.std.proofs.lemmas.List.Elements.{All-tail}
 use Rattle.clap.specs.Words.{IsAmong, Text, fault_of, subcommand_of}
 use Rattle.clap.specs.declared.error.kind.ErrorKind.TheVariants.{DisplayHelp, DisplayVersion}
-use Rattle.command_line.specs.Asked.{AsksNoCommand, is_help, is_version}
+use Rattle.command_line.specs.AskedTasks.{AsksNoCommand, is_help, is_version}
 use Rattle.command_line.specs.Forms.{Form, audit_form, collect_form, compact_form, map_form, mark_form, moved_form, next_form, plan_form, race_form, replay_form, standing, word_form}
 use Rattle.command_line.specs.Given.{IsCommandWith, Use}
-use Rattle.command_line.specs.Nexts.{AsksNext, Next, by_reach, says_reachable}
+use Rattle.command_line.specs.NextArguments.{AsksNext, Next, by_reach, says_reachable}
 use Rattle.command_line.specs.Parser.{program}
 use Rattle.command_line.proofs.Chosen.{texts_used}
 use Rattle.command_line.proofs.FormLevel.{FormTaken, form_help, form_no_version, form_taken, form_takes}

@@ -8,7 +8,7 @@ use Rattle.std.proofs.lemmas.Slice.Eq.{bytes_eq-Decides}
 use Rattle.command_line.specs.Forms.{Choice, Parameter, fresh, large, mutators, next_form, next_paths, reachable, roots, workers}
 use Rattle.command_line.specs.Given.{Gives, HasOption, IsCommandWith, Use, is_among, is_flag}
 use Rattle.command_line.specs.Given.Gives.{apart, joined, no_word, switched, then_values, to_next}
-use Rattle.command_line.specs.Nexts.{says_reachable}
+use Rattle.command_line.specs.NextArguments.{says_reachable}
 
 abbrev Text : Type 0
 Text = List ℕ

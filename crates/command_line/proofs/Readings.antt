@@ -11,7 +11,7 @@ use Rattle.clap.specs.Kinds.{or_else}
 use Rattle.clap.specs.Simple.{Shape, filled}
 use Rattle.clap.specs.Faults.{bundle_fault, flags_fault, long_fault, settle_fault, turn_fault, word_fault}
 use Rattle.clap.specs.declared.error.kind.ErrorKind.TheVariants as kind
-use Rattle.command_line.specs.Asked.{is_help}
+use Rattle.command_line.specs.AskedTasks.{is_help}
 use Rattle.command_line.specs.Forms.{Choice, Form, Parameter}
 use Rattle.command_line.specs.Given.{Gives, HasOption, HasSwitch, Use, is_flag}
 use Rattle.command_line.specs.Given.Gives.{apart, joined, no_word, switched, then_values, to_next}

@@ -14,7 +14,7 @@ use Rattle.clap.specs.declared.error.kind.ErrorKind.TheVariants.{DisplayHelp, Di
 use Rattle.clap.proofs.FaultLemmas.{stopped_fault}
 use Rattle.clap.proofs.OnLiterals.{clap_on_literals}
 use Rattle.clap.proofs.WalkLemmas.{walk_stopped}
-use Rattle.command_line.specs.Asked.{is_help, is_version}
+use Rattle.command_line.specs.AskedTasks.{is_help, is_version}
 use Rattle.command_line.specs.Given.{is_flag}
 use Rattle.command_line.specs.Forms.{Form, audit_form, collect_form, compact_form, map_form, mark_form, moved_form, next_form, plan_form, race_form, replay_form, standing, word_form}
 use Rattle.command_line.specs.Parser.{program}

@@ -1,8 +1,8 @@
 pub mod Forms
 pub mod Given
-pub mod Runs
-pub mod Nexts
+pub mod RunArguments
+pub mod NextArguments
 pub mod Maps
-pub mod Asked
+pub mod AskedTasks
 pub mod Parser
-pub mod Finds
+pub mod ParserFinds

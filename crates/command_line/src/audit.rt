@@ -1,10 +1,10 @@
 //! The command `audit`.
 ghost use Rattle.std.specs.Prelude.{◌≡◌, IfOk};
 ghost use Rattle.clap.specs.Words.{app_of, found_of};
-ghost use Rattle.command_line.specs.Finds.{IsAuditFound, IsAuditRequest};
+ghost use Rattle.command_line.specs.ParserFinds.{IsAuditFound, IsAuditRequest};
 ghost use Rattle.command_line.specs.Forms.{audit_form};
 ghost use Rattle.command_line.specs.Parser.{command as command_of};
-ghost use Rattle.command_line.specs.Runs.{audit_of};
+ghost use Rattle.command_line.specs.RunArguments.{audit_of};
 
 use crate::arguments::{
     Made, image_argument, large_switch, named_command, path_argument, switch_of, with_argument,

@@ -4,7 +4,7 @@ ghost use Rattle.std.specs.String.{string_bytes};
 ghost use Rattle.clap.specs.Words.{app_of, first_value, found_of, new_app, one_text, rule_of, with_rule, App};
 ghost use Rattle.command_line.specs.Forms.{large, next_form, reachable, text, workers};
 ghost use Rattle.command_line.specs.Given.{Takes};
-ghost use Rattle.command_line.specs.Nexts.{marks_path, next_of, roots_path, says_reachable, AreWorkersFound, HasNext, IsLawfulNext, IsMarksFound, IsNextFound, IsRootsFound};
+ghost use Rattle.command_line.specs.NextArguments.{marks_path, next_of, roots_path, says_reachable, AreWorkersFound, HasNext, IsLawfulNext, IsMarksFound, IsNextFound, IsRootsFound};
 ghost use Rattle.command_line.specs.Parser.{command as command_of, rule, switch_rule};
 
 use crate::arguments::{

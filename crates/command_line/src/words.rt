@@ -3,12 +3,12 @@ ghost use Rattle.std.specs.Prelude.{◌≡◌, ◌≢◌, ◌⊎◌, [], true, m
 ghost use Rattle.std.specs.String.{string_bytes};
 ghost use Rattle.clap.specs.Words.{app_of, fault_of, found_of, kind_of, subcommand_of, subcommand_rows_of, with_subcommand, App};
 ghost use Rattle.clap.specs.declared.error.kind.ErrorKind.TheVariants.{DisplayHelp, DisplayVersion, OutOfMemory};
-ghost use Rattle.command_line.specs.Asked.{Asks, AsksNoCommand, HasLawfulCounts, IsAnswerOf};
+ghost use Rattle.command_line.specs.AskedTasks.{Asks, AsksNoCommand, HasLawfulCounts, IsAnswerOf};
 ghost use Rattle.command_line.specs.Forms.{collect_form, compact_form, mark_form, moved_form, plan_form, race_form, replay_form, run_form, standing, word_form};
-ghost use Rattle.command_line.specs.Finds.{IsRunRequest, IsRunFound};
-ghost use Rattle.command_line.specs.Nexts.{says_reachable};
+ghost use Rattle.command_line.specs.ParserFinds.{IsRunRequest, IsRunFound};
+ghost use Rattle.command_line.specs.NextArguments.{says_reachable};
 ghost use Rattle.command_line.specs.Parser.{bare_program, command as command_of, program};
-ghost use Rattle.command_line.specs.Runs.{IsLawfulRun, run_of};
+ghost use Rattle.command_line.specs.RunArguments.{IsLawfulRun, run_of};
 
 use crate::arguments::{
     Made, dump_argument, fresh_option, image_argument, index_argument, large_switch,
@@ -57,8 +57,8 @@ pub enum Task<'a> {
     Audit(AuditRun<'a>),
     /// Run a trace as `replay` does, then make the next heap with the new marks, and write its image to a path.
     Next(NextRun<'a>),
-    /// Mark the objects that the roots of the heap in an image reach, with 1 to 64 workers, and write the new image to a
-    /// path.
+    /// Mark the objects that the roots of the heap in an image reach, with 1 to 64 workers, and write the new image to
+    /// a path.
     Mark {
         image: &'a str,
         new: &'a str,

@@ -5,7 +5,7 @@ use Rattle.std.specs.Io.KnownBytes.{Appends, Keeps}
 use Rattle.heap_layout.specs.Heap.{Heap}
 use Rattle.heap_layout.specs.Writing.{AppendsSome}
 use Rattle.comp_dump.specs.Dumped.{Dumped}
-use Rattle.command_line.specs.Runs as runs
+use Rattle.command_line.specs.RunArguments as runs
 use Rattle.commands.specs.Audits.{passed_lines, HasPassed, IsBegun, IsDumpAt, IsDumpIn, Passes, RefusesAudit, SomeAudit}
 use Rattle.command_io.specs.Disk.{Disk, SomeFile}
 use Rattle.command_io.specs.Images.{IsHeapAt}

@@ -7,7 +7,7 @@ use Rattle.heap_layout.specs.Heap.{Heap}
 use Rattle.heap_layout.specs.Versions.{IsRead}
 use Rattle.stopped_heap.specs.Settled.{collected}
 use Rattle.command_io.specs.Disk.{Disk, WritesWhole}
-use Rattle.command_io.specs.ImageParts.{SomePartsAt}
+use Rattle.command_io.specs.PartsAtPath.{SomePartsAt}
 use Rattle.command_io.specs.Images.{SomeHeapOf}
 use Rattle.command_io.specs.Printing.{CountsPrint}
 use Rattle.command_io.specs.declared.refusal.Output.TheVariants as outputs
@@ -15,10 +15,10 @@ use Rattle.command_io.specs.declared.refusal.CommandRefusal.{CommandRefusal}
 use Rattle.command_io.specs.declared.refusal.CommandRefusal.TheVariants.{CannotPrint}
 use Rattle.command_io.proofs.Outcomes.{uncounted_by}
 use Rattle.command_io.proofs.Written.{unflushed}
-use Rattle.commands.specs.Collecting.{Collects, IsCollectedHeap, RefusesCollect, RefusesCollecting}
+use Rattle.commands.specs.CollectTask.{Collects, IsCollectedHeap, RefusesCollect, RefusesCollecting}
 use Rattle.commands.specs.Compact.{live_line, PrintsLive}
 use Rattle.commands.specs.Marking.{IsMarkedByRoots}
-use Rattle.commands.specs.Nexts.{IsOfWritingNext}
+use Rattle.commands.specs.NextTask.{IsOfWritingNext}
 
 module _ {F W : Type 0} (disk : Disk F W) (large : Bool) (image : List ℕ) where
   -- no refusal to collect counts a failed call of the output

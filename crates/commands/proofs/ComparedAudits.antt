@@ -14,14 +14,14 @@ use Rattle.comp_audit.specs.Judged.{Judges}
 use Rattle.comp_audit.specs.declared.verdict.Verdict.TheVariants.{No}
 use Rattle.comp_dump.specs.declared.fault.AuditFault.{AuditFault}
 use Rattle.comp_trace.specs.declared.text.fault.TraceFault.TheVariants as traces
-use Rattle.command_line.specs.Runs as runs
+use Rattle.command_line.specs.RunArguments as runs
 use Rattle.command_io.specs.Disk.{Disk}
 use Rattle.command_io.specs.Images.{IsHeapAt}
 use Rattle.command_io.specs.Printing.{named, RefusedUnprinted}
 use Rattle.command_io.specs.declared.refusal.CommandRefusal.{CommandRefusal}
 use Rattle.command_io.specs.declared.refusal.CommandRefusal.TheVariants.{Audit, BadMarks, BadRoots, CannotCreate, CannotOpen, CannotPrint, Dump, Layout, CannotWrite, Moved, Survey, Mutator, NoSuchWord, OutOfMemory, ReadFailed, Sweep, Trace}
 use Rattle.commands.specs.Audits.{compared_lines, counts_lines, explained_lines, faults_by, found_lines, passed_lines, IsBegun, IsCompared, IsDumpAt, IsExplained, IsFound, Passes, PrintsCompared, RefusedUnexplained, RefusesAudit, RefusesCompared, SomeAudit}
-use Rattle.commands.specs.Replays.{StopsUnprinted}
+use Rattle.commands.specs.ReplayTask.{StopsUnprinted}
 use Rattle.commands.specs.declared.explained.Compared.{Compared}
 use Rattle.commands.specs.declared.explained.Found.{Found}
 use Rattle.commands.specs.declared.explained.Found.TheVariants.{Failed, Passed}

@@ -14,7 +14,7 @@ use Rattle.command_io.specs.declared.refusal.CommandRefusal.{CommandRefusal}
 use Rattle.command_io.specs.declared.refusal.CommandRefusal.TheVariants.{Layout, Mutator, Sweep, Trace, Dump, Audit, Moved, Survey, CannotWrite, CannotOpen, CannotCreate, ReadFailed, CannotPrint, NoSuchWord, BadMarks, OutOfMemory, BadRoots}
 use Rattle.commands.specs.Outcomes.{IsHaltedBy}
 use Rattle.commands.proofs.ReplayRuns.{cut_by}
-use Rattle.commands.specs.Replays.{IsPrintedHalt}
+use Rattle.commands.specs.ReplayTask.{IsPrintedHalt}
 use Rattle.commands.specs.Cycled.{cycle_by, Given, IsCycledHeap, IsNextHeap, IsUncycled, IsUnmarked}
 
 -- the registers at the end of a run hold what was handed out

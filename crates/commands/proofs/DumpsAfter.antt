@@ -13,7 +13,7 @@ use Rattle.comp_mutator.specs.Setup.{Setup, base_of, pages}
 use Rattle.comp_mutator.specs.View.{Slot}
 use Rattle.comp_mutator.specs.Pass.{Pass}
 use Rattle.comp_mutator.specs.Merged.{stamp_of}
-use Rattle.comp_mutator.specs.Shares.{allocated}
+use Rattle.comp_mutator.specs.MadeWords.{allocated}
 use Rattle.comp_mutator.specs.Finishes.{history_of, journals_of, pages_of, roots_of, there, IsFinished}
 use Rattle.comp_mutator.specs.Finished.{Finished}
 use Rattle.comp_dump.specs.Lent.{record_of}
@@ -21,7 +21,7 @@ use Rattle.comp_trace.specs.Bytes.{flipped}
 use Rattle.comp_trace.specs.Heaps.{HasRunOver}
 use Rattle.comp_trace.specs.declared.steps.shown.Shown.{Shown}
 use Rattle.comp_trace.specs.declared.text.line.Line.{Line}
-use Rattle.commands.specs.Replays.{dumped_of, page_in, times_built, IsDumpAfter, IsPageAfter, IsReplayedHeap}
+use Rattle.commands.specs.ReplayTask.{dumped_of, page_in, times_built, IsDumpAfter, IsPageAfter, IsReplayedHeap}
 use Rattle.command_io.proofs.Lines.{each-given}
 
 built_there : (slot : Slot) → times_built (record_of slot) ≡ there slot

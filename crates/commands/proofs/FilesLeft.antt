@@ -16,7 +16,7 @@ use Rattle.command_io.specs.declared.refusal.Output.{Output}
 use Rattle.command_io.specs.declared.refusal.CommandRefusal.{CommandRefusal}
 use Rattle.command_io.specs.declared.refusal.CommandRefusal.TheVariants.{Layout, Mutator, Sweep, Trace, Dump, Audit, Moved, Survey, CannotWrite, CannotOpen, CannotCreate, ReadFailed, CannotPrint, NoSuchWord, BadMarks, OutOfMemory, BadRoots}
 use Rattle.command_io.proofs.Outcomes.{unmade}
-use Rattle.commands.specs.Collecting.{IsUncollectable}
+use Rattle.commands.specs.CollectTask.{IsUncollectable}
 use Rattle.commands.specs.Compact.{IsOfSweeping}
 use Rattle.commands.specs.Moving.{refusal_of}
 use Rattle.commands.specs.Outcomes as outcomes

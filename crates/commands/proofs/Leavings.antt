@@ -10,7 +10,7 @@ use Rattle.command_io.specs.declared.refusal.CommandRefusal.{CommandRefusal}
 use Rattle.command_io.specs.declared.refusal.CommandRefusal.TheVariants.{Layout, Mutator, Sweep, Trace, Dump, Audit, Moved, Survey, CannotWrite, CannotOpen, CannotCreate, ReadFailed, CannotPrint, NoSuchWord, BadMarks, OutOfMemory, BadRoots}
 use Rattle.command_io.proofs.Outcomes.{unprinted}
 use Rattle.commands.specs.Leaving.{LeavesOutput}
-use Rattle.commands.specs.Replays.{StopsUnprinted}
+use Rattle.commands.specs.ReplayTask.{StopsUnprinted}
 use Rattle.commands.proofs.Audited.{unprinted_line}
 use Rattle.commands.proofs.ReplayRuns.{unprinted_halt}
 

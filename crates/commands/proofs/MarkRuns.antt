@@ -6,7 +6,7 @@ use Rattle.heap_layout.specs.Heap.{Heap, IsStored}
 use Rattle.heap_layout.specs.Versions.{IsRead}
 use Rattle.reachability.specs.Reachable.{AreReachable}
 use Rattle.command_io.specs.Disk.{Disk, WritesWhole}
-use Rattle.command_io.specs.ImageParts.{SomePartsAt}
+use Rattle.command_io.specs.PartsAtPath.{SomePartsAt}
 use Rattle.command_io.specs.Images.{SomeHeapOf}
 use Rattle.command_io.specs.Printing.{CountsPrint}
 use Rattle.command_io.specs.declared.refusal.Output.TheVariants as outputs
@@ -15,7 +15,7 @@ use Rattle.command_io.specs.declared.refusal.CommandRefusal.TheVariants.{CannotP
 use Rattle.command_io.proofs.Outcomes.{uncounted_by}
 use Rattle.commands.specs.Compact.{live_line, PrintsLive}
 use Rattle.commands.specs.Marking.{remarked, IsMarkedByRoots, IsMarkedHeap, Marks, RefusesMark, RefusesMarking}
-use Rattle.commands.specs.Nexts.{IsOfWritingNext}
+use Rattle.commands.specs.NextTask.{IsOfWritingNext}
 
 -- a heap of the same parts, with the reachable marks
 pub marked_heap : (parts heap : Heap) → heap ≡ remarked parts heap.marks → AreReachable parts.edition parts.words parts.roots heap.marks → IsAccepted heap → IsStored heap → IsMarkedHeap parts heap

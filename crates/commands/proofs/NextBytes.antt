@@ -4,18 +4,18 @@ use Rattle.heap_layout.specs.Encoding.{encoding}
 use Rattle.heap_layout.specs.Faults.{IsAccepted}
 use Rattle.heap_layout.specs.Heap.{live, Heap, IsStored}
 use Rattle.page_plan.specs.Sliding.{live_words}
-use Rattle.comp_trace.specs.Marks.{marks_of}
+use Rattle.comp_trace.specs.MarksText.{marks_of}
 use Rattle.comp_trace.specs.declared.text.roots.NewRoot.{NewRoot}
-use Rattle.comp_trace.specs.Roots.{new_roots_of}
+use Rattle.comp_trace.specs.RootsText.{new_roots_of}
 use Rattle.comp_trace.specs.declared.steps.shown.Shown.{Shown}
-use Rattle.command_line.specs.Nexts.{marks_path, roots_path}
+use Rattle.command_line.specs.NextArguments.{marks_path, roots_path}
 use Rattle.command_line.specs.declared.next.NextRun.{NextRun}
 use Rattle.command_io.specs.Disk.{Disk, WritesWhole}
 use Rattle.command_io.specs.Texts.{HasLines}
 use Rattle.command_io.specs.declared.refusal.Input.TheVariants as inputs
 use Rattle.command_io.specs.declared.refusal.Output.TheVariants as outputs
-use Rattle.commands.specs.Replays.{PrintsRun}
-use Rattle.commands.specs.Nexts.{AreMarksGiven, AreRootsGiven, MakesNext}
+use Rattle.commands.specs.ReplayTask.{PrintsRun}
+use Rattle.commands.specs.NextTask.{AreMarksGiven, AreRootsGiven, MakesNext}
 use Rattle.commands.specs.Successors.{AreMarksIn, AreRootsIn, IsNext}
 
 -- the text at the path of the marks is this; there is none if there is no path

@@ -10,8 +10,8 @@ use Rattle.command_io.specs.Disk.{Disk, WritesWhole}
 use Rattle.command_io.specs.Images.{SomeHeapOf}
 use Rattle.command_line.specs.declared.next.NextMarks.{NextMarks}
 use Rattle.command_line.specs.declared.next.NextMarks.TheVariants as asking
-use Rattle.command_io.specs.Marks.{RefusesMarksAt}
-use Rattle.command_io.specs.Roots.{RefusesRootsAt}
+use Rattle.command_io.specs.MarksAtPath.{RefusesMarksAt}
+use Rattle.command_io.specs.RootsAtPath.{RefusesRootsAt}
 use Rattle.command_io.specs.NewImages.{IsOfWritingImage}
 use Rattle.command_io.specs.Printing.{CountsPrint}
 use Rattle.command_io.specs.declared.refusal.Output.TheVariants as outputs
@@ -21,7 +21,7 @@ use Rattle.command_io.proofs.Begun.{failed_by}
 use Rattle.command_io.proofs.Outcomes.{uncounted_by}
 use Rattle.command_io.proofs.Written.{unflushed}
 use Rattle.commands.specs.Cycled.{refusal_by, shown_by, Given, IsCycledHeap, IsUncycled}
-use Rattle.commands.specs.Nexts.{IsOfWritingNext, IsWrittenNext, MakesNext, Nexts, PrintsNext, RefusesCycle, RefusesGivenAt, RefusesNext, RefusesWriting}
+use Rattle.commands.specs.NextTask.{IsOfWritingNext, IsWrittenNext, MakesNext, Nexts, PrintsNext, RefusesCycle, RefusesGivenAt, RefusesNext, RefusesWriting}
 use Rattle.commands.specs.declared.cycling.Cycled.{Cycled}
 use Rattle.commands.specs.declared.cycling.Uncycled.{Uncycled}
 

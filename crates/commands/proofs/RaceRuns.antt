@@ -15,8 +15,8 @@ use Rattle.comp_dump.specs.DumpEncoding.{dump_bytes}
 use Rattle.command_line.specs.declared.words.TraceRun.{TraceRun}
 use Rattle.command_io.specs.Disk.{Disk, WritesWhole}
 use Rattle.command_io.specs.Images.{IsHeapAt}
-use Rattle.commands.specs.Races.{racing, HasRace, InterruptsRace, IsHaltedRace, IsRacedHeap, Races, RefusesRace}
-use Rattle.commands.specs.Replays.{dumped_of, PrintsRun, RefusesRun, SomeRun}
+use Rattle.commands.specs.RaceTask.{racing, HasRace, InterruptsRace, IsHaltedRace, IsRacedHeap, Races, RefusesRace}
+use Rattle.commands.specs.ReplayTask.{dumped_of, PrintsRun, RefusesRun, SomeRun}
 use Rattle.command_io.specs.Texts.{HasLinesAt}
 use Rattle.command_io.specs.declared.refusal.Output.TheVariants as outputs
 use Rattle.command_io.specs.declared.refusal.CommandRefusal.{CommandRefusal}

@@ -24,8 +24,8 @@ use Rattle.comp_trace.specs.declared.races.racing.Run.{Run}
 use Rattle.comp_trace.specs.declared.steps.shown.Shown.{Shown}
 use Rattle.comp_trace.proofs.Inside.{read_inside}
 use Rattle.commands.specs.ByLine.{AreByLine, AreOwn, HasEnded, IsLeastRefusedLine}
-use Rattle.commands.specs.Races.{RanTheirLines, IsRacedHeap, IsStoppedRace}
-use Rattle.commands.specs.Replays.{dumped_of, IsDumpAfter}
+use Rattle.commands.specs.RaceTask.{RanTheirLines, IsRacedHeap, IsStoppedRace}
+use Rattle.commands.specs.ReplayTask.{dumped_of, IsDumpAfter}
 use Rattle.command_io.specs.Texts.{HasLines}
 use Rattle.comp_trace.proofs.Runnings.{setup_is}
 use Rattle.commands.proofs.DumpsAfter.{dump_after}

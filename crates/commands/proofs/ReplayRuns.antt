@@ -6,7 +6,7 @@ use Rattle.heap_layout.specs.Heap.{live, Heap}
 use Rattle.heap_layout.specs.Writing.{AppendsSome}
 use Rattle.page_plan.specs.Sliding.{live_words}
 use Rattle.comp_mutator.specs.Setup.{Setup}
-use Rattle.comp_mutator.specs.Shares.{allocated}
+use Rattle.comp_mutator.specs.MadeWords.{allocated}
 use Rattle.comp_mutator.specs.Finishes.{edition_in, builds_in, live_of, pages_of, roots_of}
 use Rattle.comp_mutator.specs.Finished.{Finished}
 use Rattle.comp_trace.specs.Bytes.{flipped, CutsShort}
@@ -26,7 +26,7 @@ use Rattle.command_io.specs.Disk.{Disk, WritesWhole}
 use Rattle.command_io.specs.Dumps.{IsOfDumping}
 use Rattle.command_io.specs.Images.{IsHeapAt, RefusesAt, RefusesImage}
 use Rattle.command_io.specs.Printing.{CountsPrint}
-use Rattle.commands.specs.Replays.{dumped_of, lines_of_run, replaying, run_lines, shown_lines, CutsReplay, IsOfWritingRun, IsPrintedHalt, IsReplayedHeap, PrintsRun, RanOver, RefusesReplay, RefusesRun, Replays, SomeRun, StopsUnprinted}
+use Rattle.commands.specs.ReplayTask.{dumped_of, lines_of_run, replaying, run_lines, shown_lines, CutsReplay, IsOfWritingRun, IsPrintedHalt, IsReplayedHeap, PrintsRun, RanOver, RefusesReplay, RefusesRun, Replays, SomeRun, StopsUnprinted}
 use Rattle.command_io.specs.Texts.{HasLinesAt, RefusesTextAt}
 use Rattle.command_io.specs.declared.refusal.Output.TheVariants as outputs
 use Rattle.command_io.specs.declared.refusal.CommandRefusal.{CommandRefusal}

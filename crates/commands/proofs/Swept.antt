@@ -23,7 +23,7 @@ use Rattle.comp_mutator.proofs.Sums.{there_at}
 use Rattle.comp_mutator.specs.CellViews.{steps_of, AreNew}
 use Rattle.comp_mutator.proofs.Rows.{at_map, at_map_back}
 use Rattle.comp_mutator.specs.Merged.{written_by}
-use Rattle.comp_mutator.specs.Shares.{allocated}
+use Rattle.comp_mutator.specs.MadeWords.{allocated}
 use Rattle.comp_mutator.specs.Finishes.{builds_in, history_of, journals_of, live_of, pages_of, roots_of, there, IsFinished}
 use Rattle.comp_mutator.specs.Mutators.{cells_of, pass_of, setup_of}
 use Rattle.comp_mutator.specs.Orders.{HasNumber, IsInOrder}

@@ -23,7 +23,7 @@ use Rattle.command_io.specs.declared.refusal.CommandRefusal.{CommandRefusal}
 use Rattle.command_io.specs.declared.refusal.CommandRefusal.TheVariants.{Layout, Mutator, Sweep, Trace, Dump, Audit, Moved, Survey, CannotWrite, CannotOpen, CannotCreate, ReadFailed, CannotPrint, NoSuchWord, BadMarks, OutOfMemory, BadRoots}
 use Rattle.command_io.proofs.Imaged.{of_heap}
 use Rattle.commands.specs.Outcomes.{printed_of, refusal_of, IsHaltedBy, IsWritten, RefusesInputs, RefusesOutcome}
-use Rattle.commands.specs.Replays.{dumped_of, run_lines, shown_lines, IsHaltedRun, IsOfWritingRun, PrintsRun, RefusesRun, RefusesTrace, RefusesTraced, SomeRun, StopsRun, Way}
+use Rattle.commands.specs.ReplayTask.{dumped_of, run_lines, shown_lines, IsHaltedRun, IsOfWritingRun, PrintsRun, RefusesRun, RefusesTrace, RefusesTraced, SomeRun, StopsRun, Way}
 use Rattle.commands.specs.declared.replays.Replayed.{Replayed}
 
 -- the lines of a text for the number of the heap's roots
@@ -164,7 +164,8 @@ module _ {F W : Type 0} (way : Way) (disk : Disk F W) (asked : TraceRun) (from t
       of_writing left (BadRoots line) w = absurd w
       of_writing left OutOfMemory w = tt
 
-      -- What follows from what became of the run, if what a run leaves has the dump of its heap and the lines of its values.
+      -- What follows from what became of the run, if what a run leaves has the dump of its heap and the lines of its
+      -- values.
       module _ (HasRun : List Shown → Finished → Type 0) (left_of : (shown : List Shown) (f : Finished) → HasRun shown f → way.leaves lines heap)
           (dump_is : (shown : List Shown) (f : Finished) (h : HasRun shown f) → way.dump lines heap (left_of shown f h) ≡ dump_bytes (dumped_of asked.mutators asked.fresh f))
           (text_is : (shown : List Shown) (f : Finished) (h : HasRun shown f) → way.text lines heap (left_of shown f h) ≡ run_lines shown (live_of f)) where

@@ -8,13 +8,13 @@ use Rattle.comp_mutator.specs.Cycles.{Cycle, heap_after, IsChapter}
 use Rattle.comp_mutator.specs.Ends.{cycle_of, setup_in}
 use Rattle.comp_mutator.specs.Finishes.{journals_of}
 use Rattle.comp_mutator.specs.Stable.{StableHeap}
-use Rattle.comp_mutator.specs.Numbered.{IsNumberedAs}
+use Rattle.comp_mutator.specs.NumberedHeaps.{IsNumberedAs}
 use Rattle.comp_mutator.specs.Finished.{Finished}
 use Rattle.comp_trace.specs.Bytes.{flipped, CutsShort}
 use Rattle.comp_trace.specs.CycleRuns.{IsLastRun, IsPart}
 use Rattle.comp_trace.specs.Markings.{marks_given, IsMarkedCycle, IsUnmarkable, KeepsReached}
 use Rattle.comp_trace.specs.declared.text.roots.NewRoot.{NewRoot}
-use Rattle.comp_trace.specs.Roots.{IsRootWithin}
+use Rattle.comp_trace.specs.RootsText.{IsRootWithin}
 use Rattle.comp_trace.specs.RootsNamed.{words_named}
 use Rattle.reachable_cycles.specs.NextRoots.{IsRefusedWith}
 use Rattle.comp_trace.specs.declared.steps.shown.Shown.{Shown}
@@ -31,8 +31,8 @@ use Rattle.commands.specs.declared.cycling.Uncycled.TheVariants.{Halted, Unfollo
 abbrev pub IsChapterOf : Heap → Cycle → Type 0
 IsChapterOf heap c = (numbers : List ℕ) (stable : StableHeap) → IsNumberedAs heap numbers stable → IsChapter c numbers stable
 
--- What is given for the next heap: its marks, or none if it is marked by what its roots reach; and its roots, if they do
--- not stay.
+-- What is given for the next heap: its marks, or none if it is marked by what its roots reach; and its roots, if they
+-- do not stay.
 pub record Given : Type 0 where
   pub marks : Option (List ℕ)
   pub roots : Option (List NewRoot)
@@ -92,8 +92,8 @@ pub record IsNotFollowed (mutators fresh : ℕ) (lines : List Line) (given : Giv
   pub refused : IsRefusedBy heap left given.marks (words_named run.run.end.registers given.roots) fault
 
 -- why the cycle does not come to its end, and what was shown until then: a line was refused, or the next heap was; or
--- memory ran out, for the values (`Trace`), for the next heap (`Layout`), for a plan (`OutOfMemory`), or for the flip or
--- the finish (`Mutator`)
+-- memory ran out, for the values (`Trace`), for the next heap (`Layout`), for a plan (`OutOfMemory`), or for the flip
+-- or the finish (`Mutator`)
 abbrev pub IsUncycled : ℕ → ℕ → List Line → List Shown → Given → Heap → CommandRefusal → Type 0
 IsUncycled mutators fresh lines shown given heap (Trace fault) = CutsShort (flipped heap mutators fresh) lines shown fault
 IsUncycled mutators fresh lines shown given heap (Layout fault) = (shown ≡ []) × IsNotFollowed mutators fresh lines given heap fault

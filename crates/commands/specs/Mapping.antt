@@ -1,12 +1,12 @@
--- What the command `map` does: it draws the heap of an image, and a dump of it if there is one. Which bytes a picture has
--- is tested, not stated here.
+-- What the command `map` does: it draws the heap of an image, and a dump of it if there is one. Which bytes a picture
+-- has is tested, not stated here.
 use Rattle.std.specs.Prelude.{◌⊎◌, ℕ, false, List, Option, Some, None, MatchOption}
 use Rattle.heap_layout.specs.Heap.{Heap}
 use Rattle.comp_dump.specs.declared.fault.AuditFault.{AuditFault}
 use Rattle.comp_audit.specs.declared.verdict.Verdict.{Verdict}
 use Rattle.comp_audit.specs.declared.verdict.Verdict.TheVariants.{No, Yes}
 use Rattle.command_line.specs.Maps.{Mapping}
-use Rattle.command_line.specs.Runs as runs
+use Rattle.command_line.specs.RunArguments as runs
 use Rattle.command_io.specs.Disk.{Disk, LeavesCounted}
 use Rattle.command_io.specs.Images.{RefusesAt, RefusesImage, SomeHeapAt}
 use Rattle.command_io.specs.Pictures.{DrawsWhole, IsOfDrawing}
@@ -34,8 +34,8 @@ pub record Maps {F W : Type 0} (disk : Disk F W) (path : List ℕ) (to : F) (bef
   pub written : DrawsWhole disk path to
   pub printed : PrintsLive before after heap
 
--- Why there is nothing to draw. The image is read first: there is none, or it is refused. Then the dump, if one is drawn:
--- there is none, or its bytes are no dump. A fault of the dump is no cause. Or memory ran out.
+-- Why there is nothing to draw. The image is read first: there is none, or it is refused. Then the dump, if one is
+-- drawn: there is none, or its bytes are no dump. A fault of the dump is no cause. Or memory ran out.
 abbrev pub FailsMap : {F W : Type 0} → Disk F W → Mapping → CommandRefusal → Type 0
 FailsMap disk asked refusal = MatchOption asked.dump (RefusesAt disk asked.large asked.image RefusesImage refusal) (λ path. FailsCompared disk (audit_for asked path) refusal)
 

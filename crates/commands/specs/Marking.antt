@@ -5,13 +5,13 @@ use Rattle.heap_layout.specs.Faults.{faults, IsAccepted}
 use Rattle.heap_layout.specs.Heap.{Heap, IsStored}
 use Rattle.reachability.specs.Reachable.{AreReachable, RefusesFor}
 use Rattle.command_io.specs.Disk.{Disk, LeavesCounted, WritesWhole}
-use Rattle.command_io.specs.ImageParts.{RefusesImageParts, SomePartsAt}
+use Rattle.command_io.specs.PartsAtPath.{RefusesImageParts, SomePartsAt}
 use Rattle.command_io.specs.Images.{RefusesAt}
 use Rattle.command_io.specs.declared.refusal.Output.TheVariants as outputs
 use Rattle.command_io.specs.declared.refusal.CommandRefusal.{CommandRefusal}
 use Rattle.command_io.specs.declared.refusal.CommandRefusal.TheVariants.{Layout, OutOfMemory}
 use Rattle.commands.specs.Compact.{live_line, PrintsLive}
-use Rattle.commands.specs.Nexts.{IsOfWritingNext}
+use Rattle.commands.specs.NextTask.{IsOfWritingNext}
 
 -- the same parts with other marks
 abbrev pub remarked : Heap → List ℕ → Heap

@@ -20,8 +20,8 @@ use Rattle.command_io.specs.declared.refusal.Input.TheVariants as inputs
 use Rattle.command_io.specs.declared.refusal.CommandRefusal.{CommandRefusal}
 use Rattle.command_io.specs.declared.refusal.CommandRefusal.TheVariants as refusals
 
--- P holds of some moved heap; the bytes, if they are known, are read as it, to their end: those of edition three only if
--- `large`
+-- P holds of some moved heap; the bytes, if they are known, are read as it, to their end: those of edition three only
+-- if `large`
 abbrev pub IsMovedIn : Bool → (Moved → Type 0) → Option (List ℕ) → Type 0
 IsMovedIn large P known = (moved : Moved) × IsStored moved × IfSome known (λ bytes. read_whole large bytes ≡ Ok moved) × P moved
 
@@ -34,8 +34,8 @@ abbrev pub RefusesBytes : Bool → CommandRefusal → Option (List ℕ) → Type
 RefusesBytes large (refusals.Dump fault) known = IfSome known (λ bytes. Fails fault (read_whole large bytes))
 RefusesBytes large _ known = ⊥
 
--- the same for a path: there is no file at it, or memory ran out, or the bytes of some file that can be read there are no
--- moved heap
+-- the same for a path: there is no file at it, or memory ran out, or the bytes of some file that can be read there are
+-- no moved heap
 abbrev pub RefusesMovedAt : {F W : Type 0} → Disk F W → Bool → List ℕ → CommandRefusal → Type 0
 RefusesMovedAt disk large path (refusals.CannotOpen inputs.Moved) = disk.lacks inputs.Moved path
 RefusesMovedAt disk large path refusals.OutOfMemory = Unit {0}
@@ -58,8 +58,8 @@ refusal_of fault = refusals.Moved fault
 abbrev pub moves_lines : ℕ → ℕ → List ℕ
 moves_lines words objects = named (codes "ok ") words ++ named (codes "objects ") objects
 
--- the heap may have moved so, and its lines were printed between these two contents of the output: the words of its marked
--- objects, and how many these are
+-- the heap may have moved so, and its lines were printed between these two contents of the output: the words of its
+-- marked objects, and how many these are
 pub record PrintsMoves (before after : Option (List ℕ)) (heap : Heap) (moved : Moved) : Type 0 where
   pub lawful : IsLawful heap moved
   pub printed : Appends before after (moves_lines (live_words (live heap)) (length heap.marks))
@@ -69,8 +69,8 @@ pub record BeginsMoves (before after : Option (List ℕ)) (heap : Heap) (moved :
   pub lawful : IsLawful heap moved
   pub begun : AppendsSome before after (moves_lines (live_words (live heap)) (length heap.marks))
 
--- Why the moved heap did not pass. The image is read first: there is none, or it is refused. Then the moved heap: there is
--- none, or its bytes are none. Then it is judged: this is its first fault. Or memory ran out.
+-- Why the moved heap did not pass. The image is read first: there is none, or it is refused. Then the moved heap: there
+-- is none, or its bytes are none. Then it is judged: this is its first fault. Or memory ran out.
 abbrev pub FailsMoved : {F W : Type 0} → Disk F W → Bool → List ℕ → List ℕ → CommandRefusal → Type 0
 FailsMoved disk large image path (refusals.CannotOpen inputs.Image) = disk.lacks inputs.Image image
 FailsMoved disk large image path (refusals.CannotOpen inputs.Moved) = disk.lacks inputs.Moved path × SomeHeapAt disk large image (λ heap. ⊤)

@@ -17,7 +17,7 @@ use Rattle.command_io.specs.Texts.{RefusesTextAt}
 use Rattle.command_io.specs.declared.refusal.Output.TheVariants as outputs
 use Rattle.command_io.specs.declared.refusal.CommandRefusal.{CommandRefusal}
 use Rattle.command_io.specs.declared.refusal.CommandRefusal.TheVariants.{CannotPrint, Mutator, OutOfMemory, Trace}
-use Rattle.commands.specs.Replays.{dumped_of, run_lines, shown_lines, IsOfWritingRun, PrintsRun}
+use Rattle.commands.specs.ReplayTask.{dumped_of, run_lines, shown_lines, IsOfWritingRun, PrintsRun}
 use Rattle.commands.specs.declared.replays.Replayed.{Replayed}
 
 -- why there is no heap with a trace: there is no image, or it is refused; or there is no trace for the heap, or it is

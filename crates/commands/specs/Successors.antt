@@ -4,9 +4,9 @@ use Rattle.heap_layout.specs.Encoding.{encoding}
 use Rattle.heap_layout.specs.Faults.{IsAccepted}
 use Rattle.heap_layout.specs.Heap.{Heap, IsStored}
 use Rattle.comp_mutator.specs.Cycles.{Cycle, Follow, IsOneLife}
-use Rattle.comp_trace.specs.Marks.{marks_of}
+use Rattle.comp_trace.specs.MarksText.{marks_of}
 use Rattle.comp_trace.specs.declared.text.roots.NewRoot.{NewRoot}
-use Rattle.comp_trace.specs.Roots.{new_roots_of}
+use Rattle.comp_trace.specs.RootsText.{new_roots_of}
 use Rattle.comp_trace.specs.declared.text.line.Line.{Line}
 use Rattle.comp_trace.specs.declared.steps.shown.Shown.{Shown}
 use Rattle.command_io.specs.Texts.{HasLines}

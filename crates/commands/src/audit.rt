@@ -2,7 +2,7 @@
 ghost use Rattle.std.specs.Prelude.{◌≡◌, ◌-◌, ◌^◌, ◌<◌, false, IfOk, IfErr, OnOk};
 ghost use Rattle.heap_layout.specs.Counted.{inner_of, failures_of};
 ghost use Rattle.comp_audit.specs.Judged.{Judges};
-ghost use Rattle.command_line.specs.Runs.{audit_of};
+ghost use Rattle.command_line.specs.RunArguments.{audit_of};
 ghost use Rattle.commands.specs.Audits.{faults_by, FailsAudit, FailsCompared, HasPassed, IsDumpAt, IsDumpIn, Passes, RefusesAudit, RefusesDump, RefusesDumpAt, SomeAudit, LeavesUnexplained};
 ghost use Rattle.command_io.specs.Disk.{LeavesRead};
 ghost use Rattle.command_io.specs.Images.{IsHeapAt};

@@ -5,10 +5,10 @@ ghost use Rattle.heap_layout.specs.Heap.{Heap};
 ghost use Rattle.heap_layout.specs.ImageParts.{heap_in};
 ghost use Rattle.stopped_heap.specs.Collecting.{RefusesCollection};
 ghost use Rattle.command_io.specs.Disk.{LeavesRead, RefusedUnmade};
-ghost use Rattle.command_io.specs.ImageParts.{SomePartsAt};
+ghost use Rattle.command_io.specs.PartsAtPath.{SomePartsAt};
 ghost use Rattle.command_io.specs.Printing.{RefusedUnprinted};
 ghost use Rattle.command_io.specs.declared.refusal.CommandRefusal.TheVariants as refusals;
-ghost use Rattle.commands.specs.Collecting.{AreLeftBy, AreSlid, Collects, IsCollectedHeap, IsLeftBy, IsReachedHeap, IsUncollectable, RefusesCollect, RefusesCollecting};
+ghost use Rattle.commands.specs.CollectTask.{AreLeftBy, AreSlid, Collects, IsCollectedHeap, IsLeftBy, IsReachedHeap, IsUncollectable, RefusesCollect, RefusesCollecting};
 ghost use Rattle.commands.specs.Leaving.{LeavesOutput};
 
 use crate::mark::write_marked;

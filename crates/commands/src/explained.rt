@@ -1,12 +1,12 @@
 //! What `audit --explain` prints: how much the dump has, and what is wrong where, or that nothing is.
 ghost use Rattle.std.specs.Prelude.{◌≡◌, ◌-◌, ◌^◌, ◌<◌, true, IfOk, IfErr, OnOk, Some};
 ghost use Rattle.heap_layout.specs.Counted.{inner_of, failures_of};
-ghost use Rattle.command_line.specs.Runs.{audit_of};
+ghost use Rattle.command_line.specs.RunArguments.{audit_of};
 ghost use Rattle.command_io.specs.Disk.{LeavesRead};
 ghost use Rattle.command_io.specs.declared.refusal.CommandRefusal.TheVariants as refusals;
 ghost use Rattle.commands.specs.Audits.{compared_lines, found_lines, FailsCompared, IsCompared, IsFound, Passes, PrintsCompared, RefusesAudit, RefusesCompared, SomeAudit, LeavesUnexplained};
 ghost use Rattle.commands.specs.Leaving.{LeavesOutput};
-ghost use Rattle.commands.specs.Replays.{StopsUnprinted};
+ghost use Rattle.commands.specs.ReplayTask.{StopsUnprinted};
 
 use crate::audit::{audited_at, verdict_by};
 use command_io::{CommandRefusal, Files, flush, print_text};

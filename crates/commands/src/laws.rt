@@ -1,6 +1,6 @@
 //! Laws of the commands. Each is the contract of a function that does nothing.
-ghost use Rattle.commands.specs.Races.{RacesInventNothing};
-ghost use Rattle.commands.specs.Replays.{ReplaysAreOne};
+ghost use Rattle.commands.specs.RaceTask.{RacesInventNothing};
+ghost use Rattle.commands.specs.ReplayTask.{ReplaysAreOne};
 ghost use Rattle.commands.specs.Successors.{AreOneLife, NextFollows, NextIsOne, TwoAreOneLife};
 
 /// The bytes of the image and of the trace and the numbers of mutators and of fresh pages determine what `replay`

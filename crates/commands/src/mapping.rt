@@ -3,7 +3,7 @@ ghost use Rattle.std.specs.Prelude.{◌≡◌, ◌-◌, ◌^◌, ◌<◌, IfErr,
 ghost use Rattle.heap_layout.specs.Counted.{inner_of, failures_of};
 ghost use Rattle.comp_audit.specs.Judged.{faults, Judges};
 ghost use Rattle.command_line.specs.Maps.{map_of};
-ghost use Rattle.command_line.specs.Runs.{audit_of};
+ghost use Rattle.command_line.specs.RunArguments.{audit_of};
 ghost use Rattle.command_io.specs.Disk.{LeavesRead, RefusedUnmade};
 ghost use Rattle.command_io.specs.Printing.{RefusedUnprinted};
 ghost use Rattle.command_io.specs.declared.refusal.CommandRefusal.TheVariants as refusals;

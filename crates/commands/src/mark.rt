@@ -4,12 +4,12 @@ ghost use Rattle.heap_layout.specs.Counted.{inner_of, failures_of};
 ghost use Rattle.heap_layout.specs.Encoding.{encoding};
 ghost use Rattle.heap_layout.specs.ImageParts.{heap_in};
 ghost use Rattle.command_io.specs.Disk.{LeavesRead, RefusedUnmade, WritesWhole};
-ghost use Rattle.command_io.specs.ImageParts.{SomePartsAt};
+ghost use Rattle.command_io.specs.PartsAtPath.{SomePartsAt};
 ghost use Rattle.command_io.specs.Printing.{RefusedUnprinted};
 ghost use Rattle.command_io.specs.declared.refusal.Output.TheVariants as outputs;
 ghost use Rattle.commands.specs.Compact.{live_line, PrintsLive};
 ghost use Rattle.commands.specs.Marking.{IsMarkedHeap, IsUnmarkable, Marks, RefusesMark, RefusesMarking};
-ghost use Rattle.commands.specs.Nexts.{IsOfWritingNext};
+ghost use Rattle.commands.specs.NextTask.{IsOfWritingNext};
 ghost use Rattle.commands.specs.Leaving.{LeavesOutput};
 
 use crate::live::live_words;
@@ -23,9 +23,9 @@ use std::thread::Threads;
 /// The command `mark`.
 ///
 /// It reads the image at `image`, of edition three or four only if `large`. Whatever marks it has, it marks exactly the
-/// objects that the roots reach, by at most `workers` threads, and checks the heap with these marks. It writes the image
-/// of that heap to `new`, and flushes it. Last it prints the live words. Fewer than `u64::MAX` calls of the output must
-/// have failed before.
+/// objects that the roots reach, by at most `workers` threads, and checks the heap with these marks. It writes the
+/// image of that heap to `new`, and flushes it. Last it prints the live words. Fewer than `u64::MAX` calls of the
+/// output must have failed before.
 ///
 /// The first of these steps that is refused ends it. A refusal other than `CannotPrint` prints nothing. The new image
 /// is created only after that heap was made. If a call of its writer fails, the writer has taken a beginning of it.

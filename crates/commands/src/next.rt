@@ -7,8 +7,8 @@ ghost use Rattle.page_plan.specs.Sliding.{live_words};
 ghost use Rattle.command_io.specs.Disk.{names_failure, LeavesRead, RefusedUnmade, WritesWhole};
 ghost use Rattle.command_io.specs.declared.refusal.Output.TheVariants as outputs;
 ghost use Rattle.commands.specs.Outcomes.{IsHaltedBy};
-ghost use Rattle.commands.specs.Replays.{run_lines, PrintsRun, StopsUnprinted};
-ghost use Rattle.commands.specs.Nexts.{IsGivenAt, IsOfWritingNext, IsWrittenNext, MakesNext, RefusesGivenAt, RefusesNext, RefusesWriting};
+ghost use Rattle.commands.specs.ReplayTask.{run_lines, PrintsRun, StopsUnprinted};
+ghost use Rattle.commands.specs.NextTask.{IsGivenAt, IsOfWritingNext, IsWrittenNext, MakesNext, RefusesGivenAt, RefusesNext, RefusesWriting};
 ghost use Rattle.commands.specs.Cycled.{given_by, refusal_by, shown_by, IsGivenWithin};
 ghost use Rattle.commands.specs.Leaving.{LeavesOutput};
 

@@ -2,8 +2,8 @@
 ghost use Rattle.std.specs.Prelude.{◌≡◌, ◌-◌, ◌^◌, ◌<◌, ◌≤◌, IfErr, OnOk};
 ghost use Rattle.heap_layout.specs.Counted.{inner_of, failures_of};
 ghost use Rattle.command_io.specs.Disk.{RefusedUnmade};
-ghost use Rattle.commands.specs.Races.{Races, RefusesRace};
-ghost use Rattle.commands.specs.Replays.{SomeRun, StopsUnprinted};
+ghost use Rattle.commands.specs.RaceTask.{Races, RefusesRace};
+ghost use Rattle.commands.specs.ReplayTask.{SomeRun, StopsUnprinted};
 ghost use Rattle.commands.specs.Leaving.{LeavesOutput};
 
 use crate::races::race_heap;

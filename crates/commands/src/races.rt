@@ -8,7 +8,7 @@ ghost use Rattle.comp_mutator.specs.Mutators.{cells_of, pass_of, setup_of, AreMu
 ghost use Rattle.comp_trace.specs.TraceLines.{IsParsedFor};
 ghost use Rattle.comp_trace.specs.Traces.{lines_of, mutators_of, roots_of};
 ghost use Rattle.commands.specs.Outcomes.{printed_of, refusal_of};
-ghost use Rattle.commands.specs.Races.{IsHaltedRace, IsRacedHeap};
+ghost use Rattle.commands.specs.RaceTask.{IsHaltedRace, IsRacedHeap};
 ghost use Rattle.command_io.specs.Texts.{HasLines};
 
 use crate::by_line::{by_line, first_refused_line};

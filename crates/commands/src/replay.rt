@@ -9,7 +9,7 @@ ghost use Rattle.command_io.specs.Texts.{HasLinesAt};
 ghost use Rattle.command_io.specs.declared.refusal.Output.TheVariants as outputs;
 ghost use Rattle.comp_trace.specs.Traces.{lines_of, mutators_of, roots_of};
 ghost use Rattle.commands.specs.Outcomes.{printed_of, refusal_of, IsHaltedBy, IsOfHalt, IsWritten, RefusesInputs, RefusesOutcome};
-ghost use Rattle.commands.specs.Replays.{dumped_of, run_lines, IsOfWritingRun, PrintsRun, RefusesReplay, Replays, SomeRun, StopsUnprinted};
+ghost use Rattle.commands.specs.ReplayTask.{dumped_of, run_lines, IsOfWritingRun, PrintsRun, RefusesReplay, Replays, SomeRun, StopsUnprinted};
 ghost use Rattle.commands.specs.Leaving.{LeavesOutput};
 
 use crate::replays::{Replayed, printed, replay_heap};

@@ -3,7 +3,7 @@ ghost use Rattle.std.specs.Prelude.{◌≡◌, ◌≤◌, length, IfOk, IfErr};
 ghost use Rattle.comp_mutator.specs.Finishes.{IsOfFlip};
 ghost use Rattle.comp_trace.specs.Traces.{lines_of, mutators_of, roots_of};
 ghost use Rattle.commands.specs.Outcomes.{printed_of, refusal_of};
-ghost use Rattle.commands.specs.Replays.{IsPrintedHalt, IsReplayedHeap};
+ghost use Rattle.commands.specs.ReplayTask.{IsPrintedHalt, IsReplayedHeap};
 
 use command_io::CommandRefusal;
 use comp_mutator::{Finished, Refusal};

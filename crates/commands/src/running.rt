@@ -4,12 +4,12 @@ ghost use Rattle.std.specs.Io.KnownBytes.{Keeps};
 ghost use Rattle.clap.specs.Words.{kind_of};
 ghost use Rattle.clap.specs.declared.error.kind.ErrorKind.TheVariants as kind;
 ghost use Rattle.heap_layout.specs.Counted.{inner_of, failures_of, is_flushed_of, writer_of};
-ghost use Rattle.command_line.specs.Asked.{AsksNoCommand, HasLawfulCounts};
+ghost use Rattle.command_line.specs.AskedTasks.{AsksNoCommand, HasLawfulCounts};
 ghost use Rattle.command_io.specs.Disk.{RefusedUnmade};
 ghost use Rattle.command_io.specs.declared.refusal.CommandRefusal.TheVariants.{OutOfMemory};
-ghost use Rattle.commands.specs.Replays.{StopsUnprinted};
+ghost use Rattle.commands.specs.ReplayTask.{StopsUnprinted};
 ghost use Rattle.commands.specs.Tasks.{DoesTask, HasAnswered, LeavesFiles, RefusesTask};
-ghost use Rattle.commands.specs.Answers.{status_of, DoesAsked, IsUnanswered, LeavesSent};
+ghost use Rattle.commands.specs.TaskAnswers.{status_of, DoesAsked, IsUnanswered, LeavesSent};
 ghost use Rattle.commands.specs.declared.running.Unanswered.TheVariants.{Misused, Refused};
 ghost use Rattle.commands.specs.Leaving.{LeavesOutput};
 
@@ -74,7 +74,8 @@ pub enum Unanswered {
 
 /// Does what the words after the program's name ask for, with these files, and flushes the output. A refusal is that of
 /// their task, with its cause. A task that makes no file leaves the files as they were, if it is done. If the words ask
-/// for nothing that the program does, neither the files nor the output are touched. Fewer than `u64::MAX` calls of the output must have failed before.
+/// for nothing that the program does, neither the files nor the output are touched. Fewer than `u64::MAX` calls of the
+/// output must have failed before.
 pub fn answer<R: Threads + Wait + Sync, F: Files, O: Write>(
     alloc: Global,
     rt: &R,

@@ -3,7 +3,7 @@ ghost use Rattle.std.specs.Prelude.{◌≡◌, ◌-◌, ◌^◌, ◌<◌, drop, 
 ghost use Rattle.std.specs.Io.KnownBytes.{Appends};
 ghost use Rattle.heap_layout.specs.Counted.{inner_of, failures_of, is_flushed_of};
 ghost use Rattle.heap_layout.specs.Writing.{AppendsSome};
-ghost use Rattle.commands.specs.Replays.{run_lines, shown_line, shown_lines, PrintsRun};
+ghost use Rattle.commands.specs.ReplayTask.{run_lines, shown_line, shown_lines, PrintsRun};
 ghost use Rattle.commands.specs.Leaving.{LeavesOutput};
 ghost use Rattle.command_io.specs.Printing.{RefusedUnprinted};
 

@@ -31,8 +31,8 @@ HeaderRefused old new object (Busy p) = ⊥
 HeaderRefused old new object (JournalFull p) = ⊥
 HeaderRefused old new object OutOfMemory = ⊥
 
--- A call asked for the object's header, and this is its answer: the header's word, or a refusal. The call found the pass
--- as the old one and left it as the new one.
+-- A call asked for the object's header, and this is its answer: the header's word, or a refusal. The call found the
+-- pass as the old one and left it as the new one.
 pub record IsHeaderRead (u : Setup) (old new : Pass) (object : ℕ) (answer : Result ℕ Refusal) : Type 0 where
   -- the pass keeps what it has seen, built and known
   pub grows : Grows old new

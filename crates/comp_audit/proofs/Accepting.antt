@@ -28,7 +28,7 @@ use Rattle.comp_dump.specs.Objects.{IsMadeAt, LeadsToObject, ReferencesAreStarts
 use Rattle.comp_dump.proofs.Leading.{each_leads, older_closed}
 use Rattle.comp_dump.specs.Merged.{entries_below, stamp_of, CanMerge}
 use Rattle.comp_dump.specs.OneThread.{address_of}
-use Rattle.comp_dump.specs.Shares.{allocated}
+use Rattle.comp_dump.specs.MadeWords.{allocated}
 use Rattle.comp_dump.proofs.Sorted.{In, at_in}
 use Rattle.comp_dump.proofs.CompHistoryPages.{below_in}
 use Rattle.comp_dump.specs.Builds.{named}

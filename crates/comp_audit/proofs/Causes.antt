@@ -12,7 +12,7 @@ use Rattle.comp_dump.specs.Lawful.{kind_at, kinds_by, kinds_in, kinds_of_header}
 use Rattle.comp_dump.specs.Setup.{Setup}
 use Rattle.comp_dump.proofs.Heads.{get_behind, kinds_long}
 use Rattle.comp_audit.specs.Checks.{fits, is_kind}
-use Rattle.comp_audit.specs.Causes.{IsCauseFor}
+use Rattle.comp_audit.specs.EntryCauses.{IsCauseFor}
 use Rattle.comp_audit.specs.declared.explanation.EntryCause.TheVariants.{OtherWord}
 
 -- the kinds of the entries from entry i on

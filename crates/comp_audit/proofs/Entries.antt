@@ -5,7 +5,7 @@ use Rattle.heap_layout.specs.declared.edition.Edition.{Edition}
 use Rattle.comp_journal.specs.declared.entry.Entry.{Entry}
 use Rattle.comp_history.specs.Lists.{total}
 use Rattle.comp_history.specs.Merged.{entries_below, stamp_of, with_page}
-use Rattle.comp_history.specs.Shares.{allocated, words_by}
+use Rattle.comp_history.specs.MadeWords.{allocated, words_by}
 use Rattle.comp_history.proofs.Sorted.{In}
 use Rattle.comp_history.proofs.Pages.{below_in, total_append}
 use Rattle.comp_dump.specs.Dumped.{BuiltPage, HasFewEntries}

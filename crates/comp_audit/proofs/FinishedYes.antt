@@ -11,7 +11,7 @@ use Rattle.comp_dump.specs.Setup.{Setup, base_of}
 use Rattle.comp_dump.specs.View.{Slot}
 use Rattle.comp_dump.specs.Closing.{journal_in, page_at, HasBase}
 use Rattle.comp_dump.specs.Merged.{history, CanMerge}
-use Rattle.comp_dump.specs.Shares.{allocated}
+use Rattle.comp_dump.specs.MadeWords.{allocated}
 use Rattle.comp_dump.specs.Finishes as finished
 use Rattle.comp_dump.specs.Builds.{named}
 use Rattle.comp_dump.specs.Finishes.{pages_of, there, IsOfFlip}

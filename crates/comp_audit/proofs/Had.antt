@@ -1,4 +1,5 @@
--- Faults that a dump has, and those that it does not have: an entry of which a cause holds, and a stamp that no page has.
+-- Faults that a dump has, and those that it does not have: an entry of which a cause holds, and a stamp that no page
+-- has.
 use Rattle.std.proofs.Common.{◌≡◌, ◌∙◌, ℕ, zero, suc, ◌+◌, ◌<◌, ◌⊎◌, true, false, true≢false, inl, inr, List, [], length, map, Option, None, Some, refl, sym, subst, arith}
 use Rattle.heap_layout.specs.Heap.{Heap}
 use Rattle.comp_dump.specs.Entry.{Entry}
@@ -7,7 +8,7 @@ use Rattle.comp_dump.specs.Lists.{times}
 use Rattle.comp_dump.specs.Merged.{entries_below, stamp_of}
 use Rattle.comp_dump.specs.declared.fault.AuditFault.TheVariants as fault
 use Rattle.comp_audit.specs.Checks.{all_stamps, journals_in}
-use Rattle.comp_audit.specs.Causes.{fits_after, setup_of, HasNoCause, IsAbove, IsCauseOf, IsLate, IsMisfit}
+use Rattle.comp_audit.specs.EntryCauses.{fits_after, setup_of, HasNoCause, IsAbove, IsCauseOf, IsLate, IsMisfit}
 use Rattle.comp_audit.specs.Explained.{stamped_on, HasFault, IsEntryExplained, IsFirstUse}
 use Rattle.comp_audit.specs.declared.explanation.BadEntryAt.{BadEntryAt}
 use Rattle.comp_audit.specs.declared.explanation.EntryCause.{EntryCause}

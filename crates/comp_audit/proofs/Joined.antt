@@ -5,7 +5,7 @@ use Rattle.std.proofs.Math.Seq.{take-append-add}
 use Rattle.std.proofs.lemmas.Bool.{cases_lt}
 use Rattle.std.proofs.lemmas.List.{drop_all, drop-drop, drop-replicate, nil_from_length, take-append-le, take-replicate}
 use Rattle.comp_dump.specs.Dumped.{BuiltPage}
-use Rattle.comp_audit.specs.Whole.{words_of}
+use Rattle.comp_audit.specs.WholeAudit.{words_of}
 
 -- the words of the first pages are those of each of them
 pub joined_from : (f : ℕ → List ℕ) (a n : ℕ) (records : List (Option BuiltPage)) → n ≤ length records → ((k : ℕ) → k < n → words_of (get_or records k None) ≡ f (a + k))

@@ -33,7 +33,7 @@ use Rattle.comp_dump.proofs.LastWord.{replayed_long}
 use Rattle.comp_dump.proofs.Leading.{base_long, each_leads, older_closed}
 use Rattle.comp_dump.specs.Merged.{entries_below, history, stamp_of, CanMerge}
 use Rattle.comp_dump.specs.OneThread.{address_of}
-use Rattle.comp_dump.specs.Shares.{allocated, words_by}
+use Rattle.comp_dump.specs.MadeWords.{allocated, words_by}
 use Rattle.comp_dump.proofs.Sorted.{In, in_at, at_in, total_sorted}
 use Rattle.comp_dump.proofs.CompHistoryPages.{in_below}
 use Rattle.comp_dump.proofs.Legal.{one_history}

@@ -15,7 +15,7 @@ use Rattle.comp_dump.specs.declared.fault.AuditFault.TheVariants.{PageMissing}
 use Rattle.comp_audit.specs.Checks.{journal_of, setup_for}
 use Rattle.comp_audit.specs.Judged.{whole_faults}
 use Rattle.comp_audit.specs.Meant.{journals_of, IsLawfulDump}
-use Rattle.comp_audit.specs.Whole.{replayed_words, words_of, IsUnwritten, UnwrittenIsSlid, WholeIsReplayed}
+use Rattle.comp_audit.specs.WholeAudit.{replayed_words, words_of, IsUnwritten, UnwrittenIsSlid, WholeIsReplayed}
 use Rattle.comp_audit.proofs.Clock.{range_none}
 use Rattle.comp_audit.proofs.Joined.{all_pages, joined_from, range_same}
 use Rattle.comp_audit.proofs.Sound.{yes_is_sound}

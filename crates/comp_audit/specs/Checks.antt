@@ -21,7 +21,7 @@ use Rattle.comp_history.specs.Setup.{Setup, pages, address, base_of}
 use Rattle.comp_history.specs.Lawful.{kind_at, filled}
 use Rattle.comp_history.specs.Merged.{entries_below, stamp_of}
 use Rattle.comp_history.specs.OneThread.{address_of}
-use Rattle.comp_history.specs.Shares.{allocated}
+use Rattle.comp_history.specs.MadeWords.{allocated}
 use Rattle.comp_history.specs.Builds.{named}
 use Rattle.comp_dump.specs.Dumped.{BuiltPage}
 use Rattle.comp_dump.specs.declared.fault.AuditFault.{AuditFault}
@@ -119,8 +119,8 @@ abbrev pub some_refers : Option Kind → Bool
 some_refers None = false
 some_refers (Some k) = refers k
 
--- 5. Each reference and weak word is null or an immediate, or the address of a slid object, or one at which a header was
--- written.
+-- 5. Each reference and weak word is null or an immediate, or the address of a slid object, or one at which a header
+-- was written.
 abbrev pub is_forwarding_address : Heap → ℕ → Bool
 is_forwarding_address heap a = is_some (shape_at (live heap) a)
 
@@ -152,8 +152,8 @@ repeat_faults stamps = flat_map (λ s. unless (nat_le (times s stamps) 1) (Stamp
 abbrev pub missing_faults : List ℕ → List AuditFault
 missing_faults stamps = flat_map (λ s. unless (nat_le 1 (times s stamps)) (StampMissing s)) (range_with_len 0 (length stamps))
 
--- 8. Each reference and weak word that was written is null or an immediate, or leads to a slid object, or to an address at
--- which a header with a smaller stamp was written.
+-- 8. Each reference and weak word that was written is null or an immediate, or leads to a slid object, or to an address
+-- at which a header with a smaller stamp was written.
 abbrev pub is_made_before : List (ℕ × Entry) → ℕ → ℕ → Bool
 is_made_before all a n = list_any (λ (x : ℕ × Entry). makes a x && nat_lt (stamp_of x) n) all
 

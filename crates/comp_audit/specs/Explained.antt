@@ -12,15 +12,15 @@ use Rattle.comp_dump.specs.Lawful.{filled, kind_at}
 use Rattle.comp_dump.specs.Lists.{times, total}
 use Rattle.comp_dump.specs.Setup.{pages}
 use Rattle.comp_dump.specs.Objects.{offset_at, page_at, word_on}
-use Rattle.comp_dump.specs.Shares.{allocated}
+use Rattle.comp_dump.specs.MadeWords.{allocated}
 use Rattle.comp_dump.specs.Builds.{named}
 use Rattle.comp_dump.specs.Dumped.{BuiltPage, Dumped}
 use Rattle.comp_dump.specs.declared.fault.AuditFault.{AuditFault}
 use Rattle.comp_dump.specs.declared.fault.AuditFault.TheVariants as fault
 use Rattle.comp_audit.specs.Checks.{all_entries, all_stamps, is_start, some_refers}
 use Rattle.comp_audit.specs.Meant.{built_count, journals_of, page_of}
-pub use Rattle.comp_audit.specs.Causes.{maker_of, setup_of, stamp_before}
-use Rattle.comp_audit.specs.Causes.{HasNoCause, IsCauseOf}
+pub use Rattle.comp_audit.specs.EntryCauses.{maker_of, setup_of, stamp_before}
+use Rattle.comp_audit.specs.EntryCauses.{HasNoCause, IsCauseOf}
 use Rattle.comp_audit.specs.declared.explanation.DumpCounts.{DumpCounts}
 use Rattle.comp_audit.specs.declared.explanation.SlidObject.{SlidObject}
 use Rattle.comp_audit.specs.declared.explanation.OutOfPlace.{OutOfPlace}
@@ -225,7 +225,8 @@ pub record IsMissing (heap : Heap) (dump : Dumped) (p : ℕ) (missing : MissingP
 
 -- A dump has a fault. Of a word: its page was built, and it is not the right one, or it is loose. Of an entry: it is
 -- there, and one of the causes holds of it. Of a stamp: two entries have it; or there are more entries than the number
--- that it is, and none has it. Of a build: the lists do not name the page once if it was built, and never if it was not.
+-- that it is, and none has it. Of a build: the lists do not name the page once if it was built, and never if it was
+-- not.
 abbrev pub HasFault : Heap → Dumped → AuditFault → Type 0
 HasFault heap dump (fault.WrongWord a) = (word : ℕ) × (word_in dump a ≡ Some word) × (word ≢ right_word heap dump a)
 HasFault heap dump (fault.LooseReference a) = (word : ℕ) × (word_in dump a ≡ Some word) × (is_tied heap dump (kind_found heap dump a) word ≡ false)

@@ -4,7 +4,7 @@ pub mod Noted
 pub mod Faultless
 pub mod Judged
 pub mod Meant
-pub mod Causes
+pub mod EntryCauses
 pub mod Explained
 pub mod Wording
-pub mod Whole
+pub mod WholeAudit

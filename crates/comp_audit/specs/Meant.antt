@@ -7,7 +7,7 @@ use Rattle.comp_dump.specs.Entry.{Entry}
 use Rattle.comp_dump.specs.Setup.{Setup, pages, base_of}
 use Rattle.comp_dump.specs.Objects.{ReferencesAreStarts}
 use Rattle.comp_dump.specs.Merged.{history, CanMerge, IsOneHistory}
-use Rattle.comp_dump.specs.Shares.{allocated}
+use Rattle.comp_dump.specs.MadeWords.{allocated}
 use Rattle.comp_dump.specs.Builds.{named}
 use Rattle.comp_dump.specs.Finishes.{builds_in, edition_in, live_of, pages_of, roots_of, IsOfFlip}
 use Rattle.comp_dump.specs.Finished.{Finished}

@@ -1,7 +1,7 @@
 //! Laws of the audit. Each is the contract of a function that does nothing.
 ghost use Rattle.comp_audit.specs.Faultless.{FaultlessIsLawful};
 ghost use Rattle.comp_audit.specs.Meant.{FinishedIsYes, LawfulIsYes, YesIsSound};
-ghost use Rattle.comp_audit.specs.Whole.{UnwrittenIsSlid, WholeIsReplayed};
+ghost use Rattle.comp_audit.specs.WholeAudit.{UnwrittenIsSlid, WholeIsReplayed};
 
 /// A journal has no fault if and only if it is lawful and its stamps rise.
 pub fn faultless_is_lawful()

@@ -10,7 +10,7 @@ use Rattle.comp_cycles.specs.NextHeap.{next_heap}
 use Rattle.comp_hand.specs.Hands.{pass_of}
 use Rattle.comp_hand.specs.declared.hand.Hand.{Hand}
 use Rattle.comp_crew.specs.Benches.{hands_on, setup_on}
-use Rattle.comp_crew.specs.Orders.{HasAll, IsInOrder, IsLeastMissing}
+use Rattle.comp_crew.specs.HandOrders.{HasAll, IsInOrder, IsLeastMissing}
 use Rattle.comp_crew.specs.declared.bench.Bench.{Bench}
 use Rattle.comp_crew.specs.declared.fault.FinishFault.{FinishFault}
 use Rattle.comp_crew.specs.declared.fault.FinishFault.TheVariants.{OutOfMemory, MutatorMissing, StillShared}

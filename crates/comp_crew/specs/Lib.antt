@@ -1,6 +1,6 @@
 pub mod Members
 pub mod Benches
-pub mod Orders
+pub mod HandOrders
 pub mod Finishing
 pub use Rattle.comp_access.specs.Allocations
 pub use Rattle.comp_access.specs.Copies
@@ -28,9 +28,9 @@ pub use Rattle.comp_access.specs.declared.refusal.Refusal
 pub use Rattle.cell_steps.specs.View
 pub use Rattle.cell_steps.specs.Journal
 pub use Rattle.comp_access.specs.declared.pages.PageCopy
-pub use Rattle.comp_history.specs.Shares
+pub use Rattle.comp_history.specs.MadeWords
 pub use Rattle.reachable_cycles.specs.NextRoots
 pub use Rattle.reachable_cycles.specs.StableReach
-pub use Rattle.comp_cycles.specs.Numbered
+pub use Rattle.comp_cycles.specs.NumberedHeaps
 pub use Rattle.comp_cycles.specs.Stable
 pub use Rattle.cell_steps.specs.Closing

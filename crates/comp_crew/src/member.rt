@@ -1,7 +1,7 @@
 ghost use Rattle.std.specs.Prelude.{◌≡◌, length};
 ghost use Rattle.cell_steps.specs.Setup as setups;
 ghost use Rattle.cell_steps.specs.Passes.{builds_of, did, edition_of, number_of};
-ghost use Rattle.comp_history.specs.Shares.{allocated};
+ghost use Rattle.comp_history.specs.MadeWords.{allocated};
 ghost use Rattle.comp_cycles.specs.Forwarded.{AreForwarded};
 
 use crate::crew::Crew;

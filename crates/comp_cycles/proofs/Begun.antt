@@ -27,7 +27,7 @@ use Rattle.comp_history.proofs.Rows.{at_value}
 use Rattle.comp_history.specs.OneThread.{OneThreadHeap, HasStart, IsNullOrStart, header_in, first_heap}
 use Rattle.comp_history.proofs.Heaps.{first_holds, journals_of}
 use Rattle.comp_cycles.specs.Stable.{StableHeap}
-use Rattle.comp_cycles.specs.Numbered.{Names, number_at, names_in, pointers_of, numbered_object, numbered_word, IsNumberedAs, AreNumbered}
+use Rattle.comp_cycles.specs.NumberedHeaps.{Names, number_at, names_in, pointers_of, numbered_object, numbered_word, IsNumberedAs, AreNumbered}
 use Rattle.comp_cycles.proofs.Naming.{at_name, at_row, row_long}
 use Rattle.comp_cycles.proofs.Living.{number_is, number_immediate, numbered_reference, numbered_other, Agrees}
 use Rattle.comp_cycles.proofs.Lives.{Ordered}
@@ -175,8 +175,8 @@ module _ (u : Setup) (closed : IsClosed u.heap) (slid : u.compacted ≡ sliding.
       placed : (k : ℕ) → k < length marks → IsPlaced u.heap.edition words (mark k)
       placed k lt = closed.placed k 0 lt
 
-      -- a word that is no immediate leads to the same object after it is forwarded; a weak word that leads to an unmarked
-      -- object is null in both heaps
+      -- a word that is no immediate leads to the same object after it is forwarded; a weak word that leads to an
+      -- unmarked object is null in both heaps
       forwarded_of : (w : ℕ) → is_immediate u.heap.edition w ≡ false → (number_at names (forwarded objects w) ≡ number_at (names_in u.heap numbers) w) × IsNullOrStart first (forwarded objects w)
       forwarded_of w other = ⊎_elim
           (λ (target : is_target marks w ≡ true). ⊎_elim

@@ -29,7 +29,7 @@ use Rattle.comp_history.proofs.Merging as merging
 use Rattle.comp_history.proofs.Legal as legal
 use Rattle.comp_history.proofs.Rows.{at_map_back, at_below, read_at as value_at}
 use Rattle.comp_cycles.specs.Stable.{StableHeap, Step, Roots, Keeps, IsAmong, IsNullOrAmong, MayKeep, IsLife, stepped, lived}
-use Rattle.comp_cycles.specs.Numbered.{Names, number_at, names_in, pointers_of, numbered_object, numbered_word, numbered, made_by, made_at, first_numbers, first_numbered, IsNumberedAs}
+use Rattle.comp_cycles.specs.NumberedHeaps.{Names, number_at, names_in, pointers_of, numbered_object, numbered_word, numbered, made_by, made_at, first_numbers, first_numbered, IsNumberedAs}
 use Rattle.comp_cycles.specs.NextHeap.{word_in, next_heap, next_faults}
 use Rattle.comp_cycles.specs.Cycles.{Cycle, roots_after, MayBeRoots, heap_after, given_after, numbers_after, story_of, AreApart, IsCycleOf, IsChapter, IsSeen, WritesLife, IsWriting, IsRising, Follow, story, numbers_left, given_left, AreChapters, IsOneLife}
 use Rattle.comp_cycles.proofs.Naming.{no_name, row_long, in_row}

@@ -10,14 +10,14 @@ use Rattle.page_plan.specs.Sliding.{to_address}
 use Rattle.comp_journal.specs.declared.entry.Entry.{Entry}
 use Rattle.comp_history.specs.Merged.{history, CanMerge}
 use Rattle.comp_history.specs.Setup.{Setup, pages}
-use Rattle.comp_history.specs.Shares.{allocated, words_by}
+use Rattle.comp_history.specs.MadeWords.{allocated, words_by}
 use Rattle.comp_history.specs.OneThread.{address_of}
 use Rattle.comp_history.proofs.Fitting.{objects_fit}
 use Rattle.comp_cycles.specs.declared.finished.Finished.{Finished}
 use Rattle.comp_cycles.specs.Cycles.{Cycle, entries_of, given_after, given_left, heap_after, roots_after, AreApart, Follow, IsCycleOf, IsLow}
 use Rattle.comp_cycles.specs.Ends.{setup_in, IsEndOf}
 use Rattle.comp_cycles.specs.Finishes.{pages_of}
-use Rattle.comp_cycles.specs.Numbered.{made_at, made_by}
+use Rattle.comp_cycles.specs.NumberedHeaps.{made_at, made_by}
 use Rattle.comp_cycles.proofs.Immediates.{not-immediate}
 use Rattle.comp_cycles.proofs.Refusals.{few_pages}
 use Rattle.comp_cycles.proofs.Rows.{next_closed, next_long}

@@ -25,7 +25,7 @@ use Rattle.comp_history.proofs.Rows.{at_map_back, at_below, read_at}
 use Rattle.comp_history.specs.Merged.{CanMerge}
 use Rattle.comp_history.specs.OneThread.{OneThreadHeap, HasStart, IsNullOrStart, header_in}
 use Rattle.comp_cycles.specs.Stable.{StableHeap, Keeps, IsAmong, IsNullOrAmong, MayKeep, is_among, left_word, left_words, head_of, stepped}
-use Rattle.comp_cycles.specs.Numbered.{Names, number_at, names_in, pointers_of, numbered_object, numbered_word, IsNumberedAs}
+use Rattle.comp_cycles.specs.NumberedHeaps.{Names, number_at, names_in, pointers_of, numbered_object, numbered_word, IsNumberedAs}
 use Rattle.comp_cycles.specs.NextHeap.{word_in, kind_in, lowered, lowered_as, next_heap}
 use Rattle.comp_cycles.specs.Cycles.{AreApart}
 use Rattle.comp_cycles.proofs.Immediates.{lower-immediate}

@@ -13,7 +13,7 @@ use Rattle.comp_history.specs.Lists.{but, look}
 use Rattle.page_plan.proofs.Shapes.{field-inside}
 use Rattle.comp_history.specs.OneThread.{OneThreadHeap, HasStart, IsFree, IsFieldIn, IsNullOrStart, MayWrite, IsLegal, header_in, address_of, after, result_of}
 use Rattle.comp_cycles.specs.Stable.{StableHeap, Step, Writes, IsNullOrAmong, MayStep, with_word, stepped, IsLife, lived}
-use Rattle.comp_cycles.specs.Numbered.{Names, number_at, owner, numbered_value, write_of, step_of, numbered, made_by, made_at}
+use Rattle.comp_cycles.specs.NumberedHeaps.{Names, number_at, owner, numbered_value, write_of, step_of, numbered, made_by, made_at}
 use Rattle.comp_cycles.proofs.Naming.{at_name}
 use Rattle.comp_cycles.proofs.Living.{owner_is, field_above, refers_below, numbered_field, number_is, header_is, may_refer, written, made, wrote, Agrees}
 

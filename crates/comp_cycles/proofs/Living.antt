@@ -15,7 +15,7 @@ use Rattle.heap_layout.proofs.Values.{nowhere-null, nowhere-cases}
 use Rattle.comp_history.specs.Lists.{but, look}
 use Rattle.comp_history.specs.OneThread.{OneThreadHeap, HasStart, IsFree, IsNullOrStart, header_in, starts_after}
 use Rattle.comp_cycles.specs.Stable.{StableHeap, Makes, IsNullOrAmong, head_of, with_word, stepped}
-use Rattle.comp_cycles.specs.Numbered.{Names, number_at, pointers_of, numbered_value, numbered_word, owner, AreNumbered}
+use Rattle.comp_cycles.specs.NumberedHeaps.{Names, number_at, pointers_of, numbered_value, numbered_word, owner, AreNumbered}
 
 -- ---- small lemmas
 

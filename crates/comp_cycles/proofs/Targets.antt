@@ -11,7 +11,7 @@ use Rattle.heap_layout.specs.Values.{is_immediate}
 use Rattle.heap_layout.proofs.Bounds.{words_most}
 use Rattle.comp_cycles.proofs.Immediates.{not-immediate}
 use Rattle.page_plan.specs.Sliding.{new_address, number_of, forward}
-use Rattle.comp_cycles.specs.Numbered.{Names, number_at, names_in, pointers_of, numbered_object, numbered_word}
+use Rattle.comp_cycles.specs.NumberedHeaps.{Names, number_at, names_in, pointers_of, numbered_object, numbered_word}
 use Rattle.comp_cycles.proofs.Naming.{at_name, no_name}
 use Rattle.comp_cycles.proofs.Living.{number_is, numbered_reference, numbered_other}
 use Rattle.comp_cycles.proofs.ObjectWords.{words-length, word-changed, word-stays}

@@ -16,12 +16,12 @@ use Rattle.comp_history.specs.Objects.{LeadsToObject}
 use Rattle.comp_history.specs.OneThread.{first_heap, header_in, result_of, HasStart}
 use Rattle.comp_cycles.specs.Forwarded.{AreForwarded}
 use Rattle.comp_cycles.specs.Stable.{StableHeap, Step, Roots, Keeps, IsLife, lived}
-use Rattle.comp_cycles.specs.Numbered.{Names, names_in, number_at, pointers_of, numbered_word, made_at, numbered, first_numbers, first_numbered, AreNumbered, IsNumberedAs}
+use Rattle.comp_cycles.specs.NumberedHeaps.{Names, names_in, number_at, pointers_of, numbered_word, made_at, numbered, first_numbers, first_numbered, AreNumbered, IsNumberedAs}
 use Rattle.comp_cycles.specs.NextHeap.{next_heap, next_faults}
 
 -- A cycle: its setup with the heap that was compacted, the journals at the end, and the to-space addresses to which the
--- roots of that heap lead. At the end two lists are handed in for the next heap: its roots, as to-space addresses, and its
--- marks. If no roots are handed in, the roots stay.
+-- roots of that heap lead. At the end two lists are handed in for the next heap: its roots, as to-space addresses, and
+-- its marks. If no roots are handed in, the roots stay.
 pub record Cycle : Type 0 where
   pub setup : Setup
   pub journals : Journals

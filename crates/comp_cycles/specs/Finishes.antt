@@ -17,7 +17,7 @@ use Rattle.comp_history.specs.Pass.{Pass}
 use Rattle.comp_history.specs.CellEnds.{lists}
 use Rattle.comp_history.specs.Objects.{AreLawful, ReferencesAreStarts}
 use Rattle.comp_history.specs.Merged.{history, written_by, CanMerge, IsOneHistory, IsPoint}
-use Rattle.comp_history.specs.Shares.{allocated}
+use Rattle.comp_history.specs.MadeWords.{allocated}
 use Rattle.comp_history.specs.Builds.{named}
 use Rattle.comp_cycles.specs.Forwarded.{AreForwarded}
 use Rattle.comp_cycles.specs.declared.finished.Finished.{Finished}

@@ -1,7 +1,7 @@
 pub mod Finishes
 pub mod Forwarded
 pub mod Stable
-pub mod Numbered
+pub mod NumberedHeaps
 pub mod NextHeap
 pub mod Cycles
 pub mod Ends
@@ -20,5 +20,5 @@ pub use Rattle.comp_history.specs.History
 pub use Rattle.comp_history.specs.Locks
 pub use Rattle.comp_history.specs.Objects
 pub use Rattle.comp_history.specs.OneThread
-pub use Rattle.comp_history.specs.Shares
+pub use Rattle.comp_history.specs.MadeWords
 pub use Rattle.comp_history.specs.Starts

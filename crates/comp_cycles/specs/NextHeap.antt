@@ -27,8 +27,8 @@ kind_in u journals i = kind_at u (i / 64) (journals (i / 64)) (i % 64)
 abbrev pub lowered : Edition → ℕ → ℕ
 lowered edition a = cond (is_immediate edition a) a (a - 2 ^ 32)
 
--- A root that is handed in, as it is read: a word that is neither null nor a to-space address becomes one that is lowered
--- to 1, which is no address of the next heap. Lowered as it is, it could become null.
+-- A root that is handed in, as it is read: a word that is neither null nor a to-space address becomes one that is
+-- lowered to 1, which is no address of the next heap. Lowered as it is, it could become null.
 abbrev pub held : ℕ → ℕ
 held a = cond ((a == 0) || nat_le (2 ^ 33) a) a (2 ^ 32 + 1)
 

@@ -1,7 +1,7 @@
 -- The stable heap, whose objects never move. An object keeps its number: 1, 2, 3 and so on, in the order in which the
 -- objects were made; 0 is null. The words of an object are its header, then its references and weak words, each the
--- number of an object or 0, and then its data words. The roots are numbers of objects, or 0. In edition four a reference,
--- a weak word or a root may also be an immediate, which stands for itself.
+-- number of an object or 0, and then its data words. The roots are numbers of objects, or 0. In edition four a
+-- reference, a weak word or a root may also be an immediate, which stands for itself.
 use Rattle.std.specs.Prelude.{◌≡◌, ℕ, ◌+◌, ◌-◌, ◌<◌, ◌==◌, ◌&&◌, ◌||◌, ◌⊎◌, Bool, true, nat_le, nat_lt, cond, List, [], ◌∷◌, fold, replicate, slice_index, slice_set}
 use Rattle.std.specs.List.{list_any}
 use mathlib.Core.Option.{some}
@@ -53,8 +53,8 @@ IsNullOrAmong edition numbers n = LeadsNowhere edition n ⊎ IsAmong numbers n
 abbrev pub is_among : List ℕ → ℕ → Bool
 is_among numbers n = list_any (λ m. m == n) numbers
 
--- These objects may be kept: they exist, and each root and each reference of each of them is null, an immediate, or leads
--- to one of them. Weak words are not restricted.
+-- These objects may be kept: they exist, and each root and each reference of each of them is null, an immediate, or
+-- leads to one of them. Weak words are not restricted.
 pub record MayKeep (heap : StableHeap) (objects : List ℕ) : Type 0 where
   pub there : (n : ℕ) → IsAmong objects n → IsAmong heap.there n
   pub roots : (n : ℕ) → IsAmong heap.roots n → IsNullOrAmong heap.edition objects n

@@ -5,7 +5,7 @@ ghost use Rattle.heap_layout.specs.Heap.{IsStored};
 ghost use Rattle.comp_cycles.specs.Cycles.{heap_after, IsChapter, IsCycleOf};
 ghost use Rattle.comp_cycles.specs.Ends.{checked_faults, cycle_of, cycle_with, setup_in, AreLowered, AreMoved, IsEndOf};
 ghost use Rattle.comp_cycles.specs.Stable.{StableHeap};
-ghost use Rattle.comp_cycles.specs.Numbered.{IsNumberedAs};
+ghost use Rattle.comp_cycles.specs.NumberedHeaps.{IsNumberedAs};
 ghost use Rattle.comp_cycles.specs.Finishes.{journals_of, pages_of, roots_of};
 
 use crate::finished::Finished;

@@ -7,7 +7,7 @@ ghost use Rattle.comp_cycles.specs.DrawnCycle.{drawn_cycle, drawn_cycles, rooted
 ghost use Rattle.comp_cycles.specs.NextHeap.{next_word};
 ghost use Rattle.comp_cycles.specs.Stable.{lived, Keeps, Makes, Roots, Writes};
 ghost use Rattle.heap_layout.specs.declared.kind.Kind.TheVariants.{Reference};
-ghost use Rattle.comp_cycles.specs.Numbered.{first_numbered};
+ghost use Rattle.comp_cycles.specs.NumberedHeaps.{first_numbered};
 ghost use Rattle.comp_history.specs.Drawn.{three_objects};
 
 /// The cycle makes object 3 and stores it in object 2; then these two are kept.

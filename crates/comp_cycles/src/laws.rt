@@ -16,7 +16,7 @@ ghost use Rattle.comp_cycles.specs.Finishes.{IsFinished};
 ghost use Rattle.comp_cycles.specs.NextHeap.{next_heap, object_starts};
 ghost use Rattle.comp_cycles.specs.declared.finished.Finished.{Finished as AFinished};
 ghost use Rattle.comp_cycles.specs.Stable.{StableHeap};
-ghost use Rattle.comp_cycles.specs.Numbered.{first_numbers, first_numbered, IsNumberedAs};
+ghost use Rattle.comp_cycles.specs.NumberedHeaps.{first_numbers, first_numbered, IsNumberedAs};
 
 /// A finished heap is the end of the heap that was flipped, so the next cycle may begin with it. `IsFinished` and the
 /// number of mutators are known from `finish`, the counts of pages from `flip`, and `IsClosed` from any plan of the

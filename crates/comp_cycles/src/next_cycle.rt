@@ -7,7 +7,7 @@ ghost use Rattle.comp_cycles.specs.Cycles.{heap_after, IsChapter, IsCycleOf};
 ghost use Rattle.comp_cycles.specs.Ends.{checked_faults, checked_heap, cycle_of, cycle_with, next_sizes, setup_in, AreMoved, IsEndOf, IsRefusedFor, IsRefusedWithin};
 ghost use Rattle.comp_cycles.specs.NextHeap.{held, lowered, next_faults};
 ghost use Rattle.comp_cycles.specs.Stable.{StableHeap};
-ghost use Rattle.comp_cycles.specs.Numbered.{IsNumberedAs};
+ghost use Rattle.comp_cycles.specs.NumberedHeaps.{IsNumberedAs};
 ghost use Rattle.comp_cycles.specs.Finishes.{journals_of, pages_of, roots_of};
 
 use crate::finished::Finished;

@@ -17,7 +17,7 @@ use Rattle.cell_steps.specs.declared.pass.Pass.{Pass}
 use Rattle.cell_steps.proofs.Joined.{nil_of}
 use Rattle.page_cells.specs.CellEnds.{IsEnd}
 use Rattle.comp_history.specs.Merged.{history, written_by, AreOwn, CanMerge}
-use Rattle.comp_history.specs.Shares.{allocated}
+use Rattle.comp_history.specs.MadeWords.{allocated}
 use Rattle.comp_history.specs.Builds.{named}
 use Rattle.comp_cycles.specs.Finishes.{allocated_by, there}
 use Rattle.comp_hand.proofs.Totals.{none_total, one_total, total_below, total_map}

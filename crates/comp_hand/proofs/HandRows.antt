@@ -11,7 +11,7 @@ use Rattle.page_cells.specs.CellEnds as ends
 use Rattle.page_cells.specs.CellEnds.{AllRest}
 use Rattle.page_cells.specs.CellViews.{AreNew, Works}
 use Rattle.page_cells.proofs.Rows.{read_at, at_below, at_map, at_map_back, at_value}
-use Rattle.comp_history.specs.Shares.{allocated}
+use Rattle.comp_history.specs.MadeWords.{allocated}
 use Rattle.comp_cycles.specs.Finishes.{allocated_by}
 use Rattle.comp_hand.specs.Hands.{pass_of}
 use Rattle.comp_hand.specs.declared.hand.Hand.{Hand}

@@ -11,7 +11,7 @@ use Rattle.cell_steps.specs.Lawful.{filled, kinds_by}
 use Rattle.cell_steps.specs.Passes.{did, edition_of, number_of, view_of}
 use Rattle.cell_steps.specs.declared.pass.Pass.{Pass}
 use Rattle.page_cells.specs.Objects.{offset_at, page_at}
-use Rattle.comp_history.specs.Shares.{allocated, words_by}
+use Rattle.comp_history.specs.MadeWords.{allocated, words_by}
 use Rattle.comp_access.specs.Allocations.{own_page, used, Allocates, Counts}
 use Rattle.comp_access.specs.Writes.{entry_by, Writes}
 use Rattle.comp_access.specs.declared.refusal.Refusal.{Refusal}

@@ -1,7 +1,7 @@
 ghost use Rattle.std.specs.Prelude.{◌≡◌, ℕ, ◌+◌, ◌*◌, ◌^◌, ◌<◌, ◌≤◌, [], length, slice_index, sum, IfOk};
 ghost use Rattle.cell_steps.specs.Passes.{builds_of, did, edition_of, number_of, view_of, Rests};
 ghost use Rattle.page_cells.specs.CellViews.{setup_of, IsPassOf};
-ghost use Rattle.comp_history.specs.Shares.{allocated};
+ghost use Rattle.comp_history.specs.MadeWords.{allocated};
 ghost use Rattle.comp_access.specs.Allocations.{AreLow, Counts};
 
 use cell_steps::Pass;

@@ -3,7 +3,7 @@ use Rattle.std.proofs.Common.{◌≡◌, ℕ, List, Option, Some, refl, sym, sub
 use Rattle.comp_crew.specs.declared.member.Member.{Member}
 use Rattle.comp_handle.specs.Answers.{bare}
 use Rattle.comp_handle.specs.Calling.{Calls}
-use Rattle.comp_handle.specs.Kinds.{mutator_in, Asks}
+use Rattle.comp_handle.specs.HandleKinds.{mutator_in, Asks}
 use Rattle.comp_handle.specs.Seeing.{CopiesSeen, SeesBy}
 use Rattle.comp_handle.specs.declared.answer.Answer.{Answer}
 use Rattle.comp_handle.specs.declared.kept.Kept.{Kept}

@@ -3,7 +3,7 @@ use Rattle.std.proofs.Common.{◌≡◌, Option, Some, ap, sym, subst, ◌∙◌
 use Rattle.comp_crew.specs.declared.bench.Bench.{Bench}
 use Rattle.comp_crew.specs.declared.member.Member.{Member}
 use Rattle.comp_handle.specs.Joining.{Brings, Gives, Joins, Meets}
-use Rattle.comp_handle.specs.Kinds.{crew_in, mutator_in, Asks}
+use Rattle.comp_handle.specs.HandleKinds.{crew_in, mutator_in, Asks}
 use Rattle.comp_handle.specs.declared.answer.Answer.{Answer}
 use Rattle.comp_handle.specs.declared.kept.Kept.{Kept}
 use Rattle.comp_handle.specs.declared.kept.Kept.TheVariants as kept

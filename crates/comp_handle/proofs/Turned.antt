@@ -2,7 +2,7 @@
 use Rattle.std.proofs.Common.{◌≡◌, Bool, true, false, ◌⊎◌, inl, inr, Option, Some, None, is_some, IsTrue, IsFalse, MatchOption, refl, sym, ap, subst, ◌∙◌}
 use Rattle.std.proofs.lemmas.Bool.{false≢true}
 use Rattle.comp_handle.specs.Answers.{bare}
-use Rattle.comp_handle.specs.Kinds.{Fills, Settles, Turns, TurnsKept}
+use Rattle.comp_handle.specs.HandleKinds.{Fills, Settles, Turns, TurnsKept}
 use Rattle.comp_handle.specs.declared.answer.Answer.{Answer}
 use Rattle.comp_handle.specs.declared.kept.Kept.{Kept}
 use Rattle.comp_handle.specs.declared.opening.Turned.{Turned}

@@ -20,7 +20,7 @@ use Rattle.comp_crew.specs.Touched.TheVariants.{Built, AlreadyBuilt}
 use Rattle.comp_crew.specs.Refusal.{Refusal}
 use Rattle.comp_crew.specs.Refusal.TheVariants.{Busy, OutOfMemory}
 use Rattle.comp_handle.specs.Answers.{bare, done, of_refusal, IsAnswer, IsPlace}
-use Rattle.comp_handle.specs.Kinds.{mutator_in, Asks}
+use Rattle.comp_handle.specs.HandleKinds.{mutator_in, Asks}
 use Rattle.comp_handle.specs.declared.answer.Answer.{Answer}
 use Rattle.comp_handle.specs.declared.calling.Call.{Call}
 use Rattle.comp_handle.specs.declared.calling.Call.TheVariants.{ReadRef, ReadWeak, ReadData, Header, WriteRef, WriteWeak, WriteData, Alloc, Touch, Root, Build}

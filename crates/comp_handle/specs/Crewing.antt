@@ -8,7 +8,7 @@ use Rattle.comp_crew.specs.Members.{number_of_member}
 use Rattle.comp_crew.specs.declared.bench.Bench.{Bench}
 use Rattle.comp_crew.specs.declared.member.Member.{Member}
 use Rattle.comp_handle.specs.Answers.{bare, done}
-use Rattle.comp_handle.specs.Kinds.{crew_in, plan_in, Asks, Fills}
+use Rattle.comp_handle.specs.HandleKinds.{crew_in, plan_in, Asks, Fills}
 use Rattle.comp_handle.specs.declared.answer.Answer.{Answer}
 use Rattle.comp_handle.specs.declared.kept.Kept.{Kept}
 use Rattle.comp_handle.specs.declared.kept.Kept.TheVariants as kept

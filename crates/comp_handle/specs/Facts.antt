@@ -8,7 +8,7 @@ use Rattle.comp_crew.specs.Finishing.{finished_of, setup_at_end}
 use Rattle.comp_crew.specs.Members.{made_of, pass_of, setup_of}
 use Rattle.comp_crew.specs.Passes.{builds_of, did, edition_of, number_of}
 use Rattle.comp_crew.specs.Setup.{pages}
-use Rattle.comp_crew.specs.Shares.{allocated}
+use Rattle.comp_crew.specs.MadeWords.{allocated}
 use Rattle.comp_crew.specs.declared.finishing.Ended.{Ended as End}
 use Rattle.comp_crew.specs.declared.member.Member.{Member}
 use Rattle.comp_handle.specs.Answers.{done}

@@ -4,7 +4,7 @@ use Rattle.mark_job.specs.Asked.{Asked}
 use Rattle.stopped_heap.specs.Reached.{IsFaultOf}
 use Rattle.stopped_heap.specs.declared.fault.SurveyFault.{SurveyFault}
 use Rattle.comp_handle.specs.Answers.{bare, done, of_survey}
-use Rattle.comp_handle.specs.Kinds.{job_in, Fills}
+use Rattle.comp_handle.specs.HandleKinds.{job_in, Fills}
 use Rattle.comp_handle.specs.Making.{ByEdition}
 use Rattle.comp_handle.specs.Resting.{asked}
 use Rattle.comp_handle.specs.declared.answer.Answer.{Answer}
@@ -21,8 +21,8 @@ abbrev pub BeginsJob : ℕ → List ℕ → List ℕ → Option Kept → Option 
 BeginsJob n words roots old new a =
     Fills 0 (λ now b. ByEdition n (λ edition. Begins (asked edition words roots) now b) now b) (Unit {0}) old new a
 
--- The answer of a helper: 0 if nothing is left to help with, 1 if it looked at some objects, 2 if others have those that
--- wait. Nothing is said of which.
+-- The answer of a helper: 0 if nothing is left to help with, 1 if it looked at some objects, 2 if others have those
+-- that wait. Nothing is said of which.
 abbrev pub Helps : Asked → Answer → Type 0
 Helps heap a = (a ≡ done 0) ⊎ (a ≡ done 1) ⊎ (a ≡ done 2)
 

@@ -6,7 +6,7 @@ use Rattle.heap_layout.specs.Heap.{Heap}
 use Rattle.heap_layout.specs.declared.fault.LayoutFault.{LayoutFault}
 use Rattle.comp_handle.specs.Answers.{done, of_layout}
 use Rattle.comp_handle.specs.Copying.{WritesBytes}
-use Rattle.comp_handle.specs.Kinds.{Fills}
+use Rattle.comp_handle.specs.HandleKinds.{Fills}
 use Rattle.comp_handle.specs.declared.answer.Answer.{Answer}
 use Rattle.comp_handle.specs.declared.kept.Kept.{Kept}
 use Rattle.comp_handle.specs.declared.kept.Kept.TheVariants as kept

@@ -11,7 +11,7 @@ use Rattle.stopped_heap.specs.declared.fault.CollectLentFault.{CollectLentFault}
 use Rattle.stopped_heap.specs.declared.fault.LentFault.{LentFault}
 use Rattle.stopped_heap.specs.declared.fault.SurveyFault.TheVariants as survey
 use Rattle.comp_handle.specs.Answers.{bare, done, of_collect_lent, of_lent, of_survey}
-use Rattle.comp_handle.specs.Kinds.{survey_in, tables_in}
+use Rattle.comp_handle.specs.HandleKinds.{survey_in, tables_in}
 use Rattle.comp_handle.specs.Resting.{asked, OfEdition}
 use Rattle.comp_handle.specs.declared.answer.Answer.{Answer}
 use Rattle.comp_handle.specs.declared.kept.Kept.{Kept}
@@ -24,8 +24,8 @@ room_for words = record { room = words }
 abbrev pub Reserves : ℕ → Option Kept → Answer → Type 0
 Reserves words now a = ((tables_in now ≡ Some (room_for words)) × (a ≡ done 0)) ⊎ ((now ≡ None) × (a ≡ bare 9 0))
 
--- The heap was collected into a memory, and the answer has its live words; or roots and memory are as they were, and the
--- answer says why, which is never for want of memory.
+-- The heap was collected into a memory, and the answer has its live words; or roots and memory are as they were, and
+-- the answer says why, which is never for want of memory.
 abbrev pub CollectsLentIn : Edition → List ℕ → List ℕ → List ℕ → List ℕ → List ℕ → Reserved → Answer → Type 0
 CollectsLentIn edition words roots new_roots before after tables a =
     ((live : ℕ) × (a ≡ done live) × HasCollected edition words roots live new_roots before after)

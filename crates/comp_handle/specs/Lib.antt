@@ -1,7 +1,7 @@
 pub mod Keeping
 pub mod Held
 pub mod Answers
-pub mod Kinds
+pub mod HandleKinds
 pub mod Calling
 pub mod Making
 pub mod Turning

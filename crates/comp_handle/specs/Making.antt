@@ -8,7 +8,7 @@ use Rattle.heap_layout.specs.declared.fault.LayoutFault.{LayoutFault}
 use Rattle.heap_layout.specs.declared.fault.LayoutFault.TheVariants as layout
 use Rattle.reachability.specs.Reachable.{AreReachable}
 use Rattle.comp_handle.specs.Answers.{bare, done, of_layout}
-use Rattle.comp_handle.specs.Kinds.{Fills}
+use Rattle.comp_handle.specs.HandleKinds.{Fills}
 use Rattle.comp_handle.specs.declared.answer.Answer.{Answer}
 use Rattle.comp_handle.specs.declared.kept.Kept.{Kept}
 use Rattle.comp_handle.specs.declared.kept.Kept.TheVariants as kept

@@ -15,7 +15,7 @@ use Rattle.stopped_heap.specs.declared.fault.SlideFault.{SlideFault}
 use Rattle.stopped_heap.specs.declared.fault.SlideFault.TheVariants as slide
 use Rattle.stopped_heap.specs.declared.fault.SurveyFault.{SurveyFault}
 use Rattle.comp_handle.specs.Answers.{bare, done, of_collect, of_marks, of_slide, of_survey}
-use Rattle.comp_handle.specs.Kinds.{survey_in, Asks, Fills}
+use Rattle.comp_handle.specs.HandleKinds.{survey_in, Asks, Fills}
 use Rattle.comp_handle.specs.Making.{ByEdition}
 use Rattle.comp_handle.specs.declared.answer.Answer.{Answer}
 use Rattle.comp_handle.specs.declared.kept.Kept.{Kept}
@@ -31,8 +31,8 @@ OfEdition n Done R a =
     ((edition : Edition) × (version_of edition ≡ n) × Done edition)
     ⊎ (((edition : Edition) → version_of edition ≢ n) × R × (a ≡ bare 19 n))
 
--- The heap was collected into a memory, and the answer has its live words; or roots and memory are as they were, and the
--- answer says why.
+-- The heap was collected into a memory, and the answer has its live words; or roots and memory are as they were, and
+-- the answer says why.
 abbrev pub CollectsIn : Edition → List ℕ → List ℕ → List ℕ → List ℕ → List ℕ → Answer → Type 0
 CollectsIn edition words roots new_roots before after a =
     ((live : ℕ) × (a ≡ done live) × HasCollected edition words roots live new_roots before after)
@@ -55,8 +55,8 @@ abbrev pub CollectsInPlace : ℕ → List ℕ → List ℕ → List ℕ → List
 CollectsInPlace n before after roots new_roots a =
     OfEdition n (λ edition. CollectsWithin edition before after roots new_roots a) ((new_roots ≡ roots) × (after ≡ before)) a
 
--- The handle keeps what the roots of the heap reach, and where it slides; the answer has the number of live words. Or it
--- keeps nothing, and the answer says why.
+-- The handle keeps what the roots of the heap reach, and where it slides; the answer has the number of live words. Or
+-- it keeps nothing, and the answer says why.
 abbrev pub Surveys : Asked → Option Kept → Answer → Type 0
 Surveys heap now a =
     ((found : Found) × (survey_in now ≡ Some found) × IsMarkedOf heap found × (a ≡ done (length found.indices)))
@@ -115,8 +115,8 @@ pub record IsFirstStray (found : Found) (roots : List ℕ) (k : ℕ) : Type 0 wh
   pub stray : is_value found.edition found.marks (slice_index roots k) ≡ false
   pub first : (j : ℕ) → j < k → is_value found.edition found.marks (slice_index roots j) ≡ true
 
--- The roots lead to where their objects are after the collection; or they are as they were, and the answer has the first
--- one that leads to no live object.
+-- The roots lead to where their objects are after the collection; or they are as they were, and the answer has the
+-- first one that leads to no live object.
 abbrev pub ForwardsRoots : List ℕ → List ℕ → Found → Answer → Type 0
 ForwardsRoots before after found a =
     ((a ≡ done 0) × All (IsValue found.edition found.marks) before × (after ≡ map (led_by found) before))

@@ -11,7 +11,7 @@ use Rattle.comp_crew.specs.Setup.{pages}
 use Rattle.comp_crew.specs.declared.member.Member.{Member}
 use Rattle.comp_handle.specs.Answers.{bare, done, of_refusal}
 use Rattle.comp_handle.specs.Calling.{IsNeverBusyAlone}
-use Rattle.comp_handle.specs.Kinds.{mutator_in, Asks}
+use Rattle.comp_handle.specs.HandleKinds.{mutator_in, Asks}
 use Rattle.comp_handle.specs.declared.answer.Answer.{Answer}
 use Rattle.comp_handle.specs.declared.kept.Kept.{Kept}
 use Rattle.comp_handle.specs.declared.kept.Kept.TheVariants as kept

@@ -15,9 +15,9 @@ rest_roots e = map (lowered (edition_in (finished_of e))) (roots_of (finished_of
 abbrev pub StandsIn : List ℕ → List ℕ → List ℕ → Type 0
 StandsIn list before after = (length list ≤ length before) × (after ≡ list ++ drop (length list) before)
 
--- The words of all pages and all roots stand at the front of their buffers, as words and roots of the next heap, and the
--- answer has the number of words. Or both buffers are as they were: one of them is too short, the answer has the length
--- that it lacks, and says which; or there is no memory, though both are long enough.
+-- The words of all pages and all roots stand at the front of their buffers, as words and roots of the next heap, and
+-- the answer has the number of words. Or both buffers are as they were: one of them is too short, the answer has the
+-- length that it lacks, and says which; or there is no memory, though both are long enough.
 abbrev pub RestsAt : List ℕ → List ℕ → List ℕ → List ℕ → End → Answer → Type 0
 RestsAt words new_words roots new_roots e a =
     (StandsIn (rest_words e) words new_words × StandsIn (rest_roots e) roots new_roots × (a ≡ done (length (rest_words e))))

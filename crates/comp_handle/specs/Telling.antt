@@ -24,8 +24,8 @@ Tells list heap dumped before after a =
     ((list ≡ []) × (after ≡ before) × (a ≡ done 0))
     ⊎ ((fault : AuditFault) × (text : List ℕ) × IsFirst list fault × TellsFault heap dumped fault text × CopiesAll text before after a)
 
--- the bytes are a dump, and its first fault is told; or the buffer stays as it was, and the answer is why none is read, or
--- that there is no memory
+-- the bytes are a dump, and its first fault is told; or the buffer stays as it was, and the answer is why none is read,
+-- or that there is no memory
 abbrev pub ExplainsBytes : Bool → Bool → List ℕ → List ℕ → List ℕ → Heap → Answer → Type 0
 ExplainsBytes whole words bytes before after heap a =
     ((dumped : Dumped) × StandsFor words bytes dumped × IsStored dumped × Tells (faults_for whole heap dumped) heap dumped before after a)

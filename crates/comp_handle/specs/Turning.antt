@@ -8,7 +8,7 @@ use Rattle.comp_crew.specs.Ends.{checked_faults, cycle_with, next_sizes, setup_i
 use Rattle.comp_crew.specs.Finishes.{journals_of, live_of}
 use Rattle.comp_crew.specs.Finishing.{finished_of, heap_of, IsEndBy, IsOfItsFlip, IsUnfinishedFor}
 use Rattle.comp_crew.specs.NextRoots.{IsRefusedWith}
-use Rattle.comp_crew.specs.Numbered.{IsNumberedAs}
+use Rattle.comp_crew.specs.NumberedHeaps.{IsNumberedAs}
 use Rattle.comp_crew.specs.Stable.{StableHeap}
 use Rattle.comp_crew.specs.StableReach.{written, AreMarkedReachable, KeepsExactly}
 use Rattle.comp_crew.specs.declared.bench.Bench.{Bench}
@@ -16,7 +16,7 @@ use Rattle.comp_crew.specs.declared.fault.FinishFault.{FinishFault}
 use Rattle.comp_crew.specs.declared.fault.FinishFault.TheVariants as finish
 use Rattle.comp_crew.specs.declared.finishing.Ended.{Ended as End}
 use Rattle.comp_handle.specs.Answers.{bare, done, of_layout}
-use Rattle.comp_handle.specs.Kinds.{plan_in}
+use Rattle.comp_handle.specs.HandleKinds.{plan_in}
 use Rattle.comp_handle.specs.declared.answer.Answer.{Answer}
 use Rattle.comp_handle.specs.declared.kept.Kept.{Kept}
 use Rattle.comp_handle.specs.declared.kept.Kept.TheVariants as kept

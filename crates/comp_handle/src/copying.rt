@@ -1,7 +1,7 @@
 //! Lists are copied into buffers of C.
 ghost use Rattle.std.specs.Prelude.{◌≡◌};
 ghost use Rattle.comp_handle.specs.Copying.{CopiesAll, CopiesEndRoots, CopiesRoots};
-ghost use Rattle.comp_handle.specs.Kinds.{end_in, mutator_in, Asks};
+ghost use Rattle.comp_handle.specs.HandleKinds.{end_in, mutator_in, Asks};
 
 use crate::answer::Answer;
 use crate::handle::Handle;

@@ -5,7 +5,7 @@ ghost use Rattle.comp_crew.specs.Members.{IsMember};
 ghost use Rattle.comp_handle.specs.Answers.{bare};
 ghost use Rattle.comp_handle.specs.Crewing.{most_fresh, Flips, FlipsOf, IsCount, IsUnflipped, IsUnshared, IsUnsplit, IsUntaken, Splits, Takes};
 ghost use Rattle.comp_handle.specs.Keeping.{IsKept};
-ghost use Rattle.comp_handle.specs.Kinds.{plan_in};
+ghost use Rattle.comp_handle.specs.HandleKinds.{plan_in};
 
 use crate::answer::Answer;
 use crate::handle::Handle;

@@ -4,7 +4,7 @@ ghost use Rattle.comp_crew.specs.Finishing.{IsEnded};
 ghost use Rattle.comp_dump.specs.DumpEncoding.{dump_bytes};
 ghost use Rattle.comp_handle.specs.Dumping.{dump_of, IsLawful, WritesDump};
 ghost use Rattle.comp_handle.specs.Copying.{WritesBytes};
-ghost use Rattle.comp_handle.specs.Kinds.{end_in, Asks};
+ghost use Rattle.comp_handle.specs.HandleKinds.{end_in, Asks};
 
 use crate::answer::Answer;
 use crate::copying::copy_bytes;

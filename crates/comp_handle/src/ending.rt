@@ -2,7 +2,7 @@
 ghost use Rattle.std.specs.Prelude.{◌≡◌, None, Some, MatchOption};
 ghost use Rattle.comp_handle.specs.Ending.{built_by, pages_at_end, CopiesEntry, CopiesPage, IsBuildOf, IsCountOf, Tells};
 ghost use Rattle.comp_dump.specs.Codes.{kind_code};
-ghost use Rattle.comp_handle.specs.Kinds.{end_in, Asks};
+ghost use Rattle.comp_handle.specs.HandleKinds.{end_in, Asks};
 
 use crate::answer::Answer;
 use crate::handle::Handle;

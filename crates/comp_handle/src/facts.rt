@@ -5,7 +5,7 @@ ghost use Rattle.comp_crew.specs.Finishes.{pages_of};
 ghost use Rattle.comp_crew.specs.Finishing.{finished_of, setup_at_end, IsEnded};
 ghost use Rattle.comp_crew.specs.Members.{setup_of};
 ghost use Rattle.comp_handle.specs.Facts.{facts_at_end, facts_of, heap_facts_of, plan_facts_of, Counts, CountsEnd, CountsHeap, CountsPlan};
-ghost use Rattle.comp_handle.specs.Kinds.{end_in, heap_in, mutator_in, plan_in, Asks};
+ghost use Rattle.comp_handle.specs.HandleKinds.{end_in, heap_in, mutator_in, plan_in, Asks};
 
 use crate::answer::Answer;
 use crate::crewing::most_fresh;

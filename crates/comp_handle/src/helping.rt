@@ -3,7 +3,7 @@ ghost use Rattle.std.specs.Prelude.{◌≡◌, ◌⊎◌, ◌≤◌, None, Some,
 ghost use Rattle.comp_handle.specs.Answers.{bare};
 ghost use Rattle.comp_handle.specs.Helping.{Begins, BeginsJob, Helps, IsUnended};
 ghost use Rattle.comp_handle.specs.Keeping.{IsKept};
-ghost use Rattle.comp_handle.specs.Kinds.{job_in, Asks, Turns};
+ghost use Rattle.comp_handle.specs.HandleKinds.{job_in, Asks, Turns};
 ghost use Rattle.comp_handle.specs.Lending.{IsStillShared};
 ghost use Rattle.comp_handle.specs.Resting.{asked, IsUnsharedIn, Shares, Surveys};
 ghost use Rattle.heap_layout.specs.Limits.{most_roots, most_words};

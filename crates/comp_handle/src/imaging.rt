@@ -3,7 +3,7 @@ ghost use Rattle.std.specs.Prelude.{◌≡◌, true, length, None, IfErr, IfOk};
 ghost use Rattle.heap_layout.specs.Encoding.{encoding, RefusesBy};
 ghost use Rattle.heap_layout.specs.Faults.{IsAccepted};
 ghost use Rattle.comp_handle.specs.Imaging.{ReadsHeap, ReadsImage, WritesImage};
-ghost use Rattle.comp_handle.specs.Kinds.{heap_in, Asks};
+ghost use Rattle.comp_handle.specs.HandleKinds.{heap_in, Asks};
 
 use crate::answer::Answer;
 use crate::copying::copy_bytes;

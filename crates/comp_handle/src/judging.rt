@@ -6,7 +6,7 @@ ghost use Rattle.comp_dump.specs.DumpEncoding.{dump_bytes};
 ghost use Rattle.comp_dump.specs.DumpReading.{read_whole_by, Fails};
 ghost use Rattle.comp_dump.specs.WordsReading.{read_whole_words};
 ghost use Rattle.comp_handle.specs.Judging.{asks_whole, asks_words, faults_for, of_audit, of_dump, read_by, JudgesBy, JudgesBytes, StandsFor};
-ghost use Rattle.comp_handle.specs.Kinds.{plan_in, Asks};
+ghost use Rattle.comp_handle.specs.HandleKinds.{plan_in, Asks};
 
 use crate::answer::Answer;
 use crate::handle::Handle;

@@ -1,6 +1,6 @@
 //! What is kept, by its kind: taken out, or looked at.
 ghost use Rattle.std.specs.Prelude.{◌≡◌, None, Some, IfErr, IfOk, MatchOption};
-ghost use Rattle.comp_handle.specs.Kinds.{crew_in, end_in, heap_in, job_in, mutator_in, plan_in, survey_in, tables_in};
+ghost use Rattle.comp_handle.specs.HandleKinds.{crew_in, end_in, heap_in, job_in, mutator_in, plan_in, survey_in, tables_in};
 ghost use Rattle.comp_handle.specs.declared.kept.Kept.TheVariants as kinds;
 
 use crate::kept::Kept;

@@ -1,7 +1,7 @@
 //! Tables for surveys of heaps at rest, made before, so that a collection by them takes no memory.
 ghost use Rattle.std.specs.Prelude.{◌≡◌, IfErr, IfOk, IsFalse, IsTrue};
 ghost use Rattle.comp_handle.specs.Keeping.{IsKept};
-ghost use Rattle.comp_handle.specs.Kinds.{survey_in, tables_in, Asks, Fills, Turns, TurnsKept};
+ghost use Rattle.comp_handle.specs.HandleKinds.{survey_in, tables_in, Asks, Fills, Turns, TurnsKept};
 ghost use Rattle.comp_handle.specs.Lending.{CollectsLent, CollectsLentIn, CollectsLentInPlace, CollectsLentWithin, IsStillShared, IsUnlent, IsUnlentIn, Reserves, Returns, SurveysLent, SurveysLentIn};
 ghost use Rattle.comp_handle.specs.Resting.{asked};
 ghost use Rattle.comp_handle.specs.declared.kept.Kept.TheVariants as kinds;

@@ -1,7 +1,7 @@
 //! What another collection left of a heap is judged.
 ghost use Rattle.std.specs.Prelude.{◌≡◌, true, IfErr, IfOk};
 ghost use Rattle.comp_dump.specs.DumpReading.{Fails};
-ghost use Rattle.comp_handle.specs.Kinds.{heap_in, Asks};
+ghost use Rattle.comp_handle.specs.HandleKinds.{heap_in, Asks};
 ghost use Rattle.comp_handle.specs.Moves.{head_number, of_moved, JudgesMoved};
 ghost use Rattle.moved_heaps.specs.MovedFiles.{moved_bytes, IsStored};
 ghost use Rattle.moved_heaps.specs.MovedReading.{read_whole};

@@ -1,7 +1,7 @@
 //! A handle's content, out of its box and back, or into the box of another handle.
 ghost use Rattle.std.specs.Prelude.{◌≡◌, None, Some, is_some, IsTrue, MatchOption};
 ghost use Rattle.comp_handle.specs.Keeping.{IsKept, KeepsIf};
-ghost use Rattle.comp_handle.specs.Kinds.{Settles};
+ghost use Rattle.comp_handle.specs.HandleKinds.{Settles};
 
 use crate::answer::Answer;
 use crate::handle::Handle;

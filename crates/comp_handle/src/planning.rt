@@ -1,7 +1,7 @@
 //! A plan by its handle: another share of it, what a page slides to, and where addresses lead.
 ghost use Rattle.std.specs.Prelude.{◌≡◌, ◌⊎◌, None, Some, IfErr, IfOk, IsFalse, IsTrue};
 ghost use Rattle.comp_handle.specs.Answers.{bare};
-ghost use Rattle.comp_handle.specs.Kinds.{plan_in, Asks};
+ghost use Rattle.comp_handle.specs.HandleKinds.{plan_in, Asks};
 ghost use Rattle.comp_handle.specs.Planning.{led_by_plan, CopiesPlanned, ForwardsBy};
 ghost use Rattle.comp_handle.specs.Resting.{IsUnsharedIn, Shares};
 
@@ -131,8 +131,8 @@ fn forward_shared(plan: &Arc<Plan>, addresses: &mut [u64]) -> Answer
 }
 
 /// Makes these addresses of from-space, of tables of the caller's own, lead to where their objects slide, by the plan
-/// that a handle keeps: to-space addresses. Null and immediates stay; a word that leads to no marked object becomes null.
-/// Takes no memory.
+/// that a handle keeps: to-space addresses. Null and immediates stay; a word that leads to no marked object becomes
+/// null. Takes no memory.
 pub fn forward_plan(alloc: Global, h: &mut Handle, addresses: &mut [u64]) -> Answer
     ensures same { h.new.kept ≡ h.old.kept }
     ensures forwards { Asks 0 plan_in (ForwardsBy addresses.old addresses.new) (addresses.new ≡ addresses.old) h.old.kept result }

@@ -1,7 +1,7 @@
 //! A heap at rest, in memory of the caller: it is collected, or surveyed, and slides by the survey that a handle keeps.
 ghost use Rattle.std.specs.Prelude.{◌≡◌, ◌⊎◌, ◌+◌, ◌/◌, None, Some, length, IfErr, IfOk, IsFalse, IsTrue};
 ghost use Rattle.comp_handle.specs.Answers.{bare};
-ghost use Rattle.comp_handle.specs.Kinds.{survey_in, Asks};
+ghost use Rattle.comp_handle.specs.HandleKinds.{survey_in, Asks};
 ghost use Rattle.comp_handle.specs.Resting.{asked, nulls, Collects, CollectsIn, CollectsInPlace, CollectsWithin, CountsSurvey, ForwardsRoots, ForwardsWeak, IsTakenOf, IsUnsharedIn, Shares, Slides, Surveys, SurveysByMarks, SurveysByRoots, TakesMarks};
 ghost use Rattle.mark_job.specs.Asked.{IsMarkedOf};
 ghost use Rattle.stopped_heap.specs.Marks.{IsMarksFaultOf};

@@ -3,7 +3,7 @@ ghost use Rattle.std.specs.Prelude.{◌≡◌, ◌≤◌, ◌++◌, drop, length
 ghost use Rattle.comp_crew.specs.Finishes.{edition_in, roots_of};
 ghost use Rattle.comp_crew.specs.Finishing.{IsEnded};
 ghost use Rattle.comp_crew.specs.NextHeap.{lowered};
-ghost use Rattle.comp_handle.specs.Kinds.{end_in, Asks};
+ghost use Rattle.comp_handle.specs.HandleKinds.{end_in, Asks};
 ghost use Rattle.comp_handle.specs.Settling.{RestsAt};
 
 use crate::answer::Answer;

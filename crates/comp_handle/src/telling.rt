@@ -2,7 +2,7 @@
 ghost use Rattle.std.specs.Prelude.{◌≡◌, IfOk};
 ghost use Rattle.std.specs.String.{string_bytes};
 ghost use Rattle.comp_handle.specs.Copying.{CopiesAll};
-ghost use Rattle.comp_handle.specs.Kinds.{plan_in, Asks};
+ghost use Rattle.comp_handle.specs.HandleKinds.{plan_in, Asks};
 ghost use Rattle.comp_handle.specs.Telling.{ExplainsBy, ExplainsBytes, TellsFault};
 
 use crate::answer::Answer;

@@ -4,7 +4,7 @@ ghost use Rattle.heap_layout.specs.Faults.{Reports};
 ghost use Rattle.comp_crew.specs.Ends.{next_sizes};
 ghost use Rattle.comp_crew.specs.Finishing.{finished_of, IsEnded};
 ghost use Rattle.comp_handle.specs.Keeping.{IsKept};
-ghost use Rattle.comp_handle.specs.Kinds.{crew_in, end_in, heap_in, Turns, TurnsKept};
+ghost use Rattle.comp_handle.specs.HandleKinds.{crew_in, end_in, heap_in, Turns, TurnsKept};
 ghost use Rattle.comp_handle.specs.Turning.{of_finish, Finishes, Follows, FollowsReached, IsUnfinished, IsUnfollowed, IsUnplanned, IsUnreached, Plans};
 ghost use Rattle.comp_handle.specs.declared.kept.Kept.TheVariants as kinds;
 

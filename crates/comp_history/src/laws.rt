@@ -11,7 +11,7 @@ ghost use Rattle.page_cells.specs.Objects.{AreLawful, ReferencesAreStarts};
 ghost use mathlib.Core.Option.{some};
 ghost use lib.ListN.{get_elem?};
 ghost use Rattle.comp_history.specs.Merged.{history, written_by, AreOwn, CanMerge, IsOneHistory, IsPoint};
-ghost use Rattle.comp_history.specs.Shares.{allocated};
+ghost use Rattle.comp_history.specs.MadeWords.{allocated};
 
 /// If journals can be merged, a single thread could have written their merged history into the slid heap, and it makes
 /// the words and the objects of all pages.

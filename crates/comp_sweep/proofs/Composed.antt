@@ -15,7 +15,7 @@ use Rattle.comp_mutator.specs.Touched.{Touched}
 use Rattle.comp_mutator.specs.Touched.TheVariants.{Built, AlreadyBuilt}
 use Rattle.comp_mutator.specs.Refusal.{Refusal}
 use Rattle.comp_mutator.specs.Refusal.TheVariants.{Null, NotAStart, NoSuchField, NotInEdition, ObjectTooLarge, OutOfPages, Busy, JournalFull, OutOfMemory}
-use Rattle.comp_mutator.specs.Shares.{allocated}
+use Rattle.comp_mutator.specs.MadeWords.{allocated}
 use Rattle.comp_mutator.specs.declared.space.Space.{Space}
 use Rattle.comp_mutator.specs.declared.mutator.Mutator.{Mutator}
 use Rattle.comp_mutator.proofs.CompAccessGrowing.{known_more}

@@ -15,7 +15,7 @@ use Rattle.comp_mutator.proofs.Rows.{at_map_back}
 use Rattle.comp_mutator.proofs.Sums.{is_inside, read_at}
 use Rattle.comp_trace.specs.AllMet.{HaveAllMet, HaveOnlyMet, OnlyMet}
 use Rattle.comp_trace.specs.AllMutators.{AreAll}
-use Rattle.comp_trace.specs.Rounds.{row, DidNothing, HasMetAll, Learns}
+use Rattle.comp_trace.specs.RoundsOfMeetings.{row, DidNothing, HasMetAll, Learns}
 use Rattle.comp_trace.specs.WrittenEntries.{written_by_each, HaveAll, HaveSeen, HaveStart, IsMerged}
 use Rattle.comp_trace.proofs.Merging.{merged_by}
 use Rattle.comp_trace.proofs.RowLists.{row_at, written_at}

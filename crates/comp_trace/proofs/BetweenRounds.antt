@@ -16,7 +16,7 @@ use Rattle.comp_mutator.proofs.Growing.{begins_then}
 use Rattle.comp_mutator.proofs.Meetings.{between}
 use Rattle.comp_mutator.specs.CellViews.{Works}
 use Rattle.comp_trace.specs.WrittenEntries.{AreMerged, WrittenEntries, IsMerged}
-use Rattle.comp_trace.specs.Rounds.{Met}
+use Rattle.comp_trace.specs.RoundsOfMeetings.{Met}
 use Rattle.comp_trace.specs.Lines.{IsAboveAll}
 use Rattle.comp_trace.proofs.Merging.{by_between, merged_by, merged_more, merged_once, IsOneMore}
 

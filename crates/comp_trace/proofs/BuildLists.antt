@@ -15,7 +15,7 @@ use Rattle.comp_mutator.specs.Finishes.{builds_in, pages_of, there, HasPages}
 use Rattle.comp_mutator.specs.Mutators.{pass_of}
 use Rattle.comp_mutator.specs.Finished.{Finished}
 use Rattle.comp_mutator.specs.declared.mutator.Mutator.{Mutator}
-use Rattle.comp_trace.specs.Builds.{built_by, HaveBuilt}
+use Rattle.comp_trace.specs.LineBuilds.{built_by, HaveBuilt}
 
 -- the lists of mutators that built exactly these pages, from one index on
 lists_from : {L : Type 0} (low : ℕ) (mutators : List (Mutator L)) (built : List (ℕ × ℕ))

@@ -20,8 +20,8 @@ use Rattle.comp_mutator.specs.Objects.{page_at}
 use Rattle.comp_mutator.specs.Allocations.{own_page, used, Allocates}
 use Rattle.comp_mutator.specs.Fields.{field_address}
 use Rattle.comp_mutator.specs.Reads.{BuildsNothing, BuildsPage, MayBuild, MayBuildTouched}
-use Rattle.comp_trace.specs.Builds.{built_after, built_by, is_built, slid_page, BuildsTouched}
-use Rattle.comp_trace.specs.Rounds.{Met}
+use Rattle.comp_trace.specs.LineBuilds.{built_after, built_by, is_built, slid_page, BuildsTouched}
+use Rattle.comp_trace.specs.RoundsOfMeetings.{Met}
 use Rattle.comp_mutator.proofs.Heaps.{page_is as on_page}
 
 -- ---- the page that a call touched

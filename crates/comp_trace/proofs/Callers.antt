@@ -12,7 +12,7 @@ use Rattle.comp_mutator.specs.Forwarded.{AreForwarded}
 use Rattle.comp_mutator.specs.Mutators.{cells_of, pass_of, setup_of, AreMutatorsOf}
 use Rattle.comp_mutator.specs.declared.mutator.Mutator.{Mutator}
 use Rattle.comp_mutator.specs.declared.space.Space.{Space}
-use Rattle.comp_trace.specs.Builds.{HaveBuilt}
+use Rattle.comp_trace.specs.LineBuilds.{HaveBuilt}
 use Rattle.comp_trace.specs.WrittenEntries.{DidNothingYet}
 use Rattle.comp_trace.specs.AllMutators.{AreAll}
 

@@ -16,11 +16,11 @@ use Rattle.comp_mutator.specs.Allocations.{own_page, AllocationRefused, AskedRef
 use Rattle.comp_mutator.specs.Refusal.{Refusal}
 use Rattle.comp_mutator.specs.Refusal.TheVariants.{Null, NotAStart, NoSuchField, NotInEdition, ObjectTooLarge, OutOfPages, Busy, JournalFull, OutOfMemory}
 use Rattle.comp_trace.specs.Acting.{Refuses}
-use Rattle.comp_trace.specs.Builds.{kind_if}
+use Rattle.comp_trace.specs.LineBuilds.{kind_if}
 use Rattle.comp_trace.specs.declared.text.line.Action.{Action}
 use Rattle.comp_trace.specs.declared.text.line.Action.TheVariants.{Root, Load, Get, Store, Put, New, Nil, Immediate}
 use Rattle.comp_trace.specs.Bytes.{IsOfRun}
-use Rattle.comp_trace.specs.Causes.{journals_at, AreOfRuns, HasCause, HasFieldCause, HasNewCause, IsFilled, IsOwnOf, LiesOn}
+use Rattle.comp_trace.specs.LineCauses.{journals_at, AreOfRuns, HasCause, HasFieldCause, HasNewCause, IsFilled, IsOwnOf, LiesOn}
 use Rattle.comp_trace.specs.Runs.{Moment}
 
 module _ (u : Setup) (moment : Moment) (m : ℕ) (old new : Pass) (began : IsOfRun u moment m old) (ended : IsOfRun u moment m new) where

@@ -29,7 +29,7 @@ use Rattle.comp_mutator.specs.Fields.{field_address, IsFieldOf}
 use Rattle.comp_mutator.specs.Reads.{Reads}
 use Rattle.comp_mutator.proofs.OwnPages.{filled_append, on_append, own_fresh, read_back, one_owner}
 use Rattle.comp_trace.specs.Acting.{registers_after, shown_at}
-use Rattle.comp_trace.specs.Builds.{built_after, kind_if, touched}
+use Rattle.comp_trace.specs.LineBuilds.{built_after, kind_if, touched}
 use Rattle.comp_trace.proofs.MadeObjects.{no_header}
 use Rattle.comp_trace.specs.Runs.{beginning, unstamped, unstamped_on, AreAlike, Does, IsDetermined, Moment, Runs}
 use Rattle.comp_trace.specs.Lines.{used_by, with_entries, Acts, IsOneEntry, MakesAsked, MakesObject, WritesField}

@@ -25,9 +25,9 @@ use Rattle.comp_mutator.specs.Writes.{entry_by, Adds, Writes}
 use Rattle.comp_mutator.specs.Allocations.{own_page, used, Allocates, AllocatesAsked}
 use Rattle.comp_trace.specs.Acting.{Answers}
 use Rattle.comp_trace.specs.WrittenEntries.{AreMerged, KnowsMade}
-use Rattle.comp_trace.specs.Rounds.{Advances, Learns, Met}
+use Rattle.comp_trace.specs.RoundsOfMeetings.{Advances, Learns, Met}
 use Rattle.comp_trace.specs.Lines.{used_by, with_entries, Acts, IsAboveAll, IsOneEntry, MakesAsked, MakesObject, WritesField}
-use Rattle.comp_trace.specs.Builds.{kind_if}
+use Rattle.comp_trace.specs.LineBuilds.{kind_if}
 use Rattle.comp_trace.specs.declared.text.line.Action.{Action}
 use Rattle.comp_trace.specs.declared.text.line.Action.TheVariants.{Root, Load, Get, Store, Put, New, Nil, Immediate}
 use Rattle.comp_trace.proofs.BetweenRounds.{dids, known_before, reads_all, seen_all, writes_all, IsCrew}

@@ -18,11 +18,11 @@ use Rattle.comp_mutator.specs.Lawful.{HasHead}
 use Rattle.comp_mutator.proofs.OwnPages.{on_append}
 use Rattle.comp_mutator.specs.Allocations.{AllocatesAsked}
 use Rattle.heap_layout.specs.Header.{header_with, Head}
-use Rattle.comp_trace.specs.Builds.{kind_if}
+use Rattle.comp_trace.specs.LineBuilds.{kind_if}
 use Rattle.comp_mutator.specs.Refusal.{Refusal}
 use Rattle.comp_trace.specs.Acting.{Answers, Steps}
 use Rattle.comp_trace.specs.WrittenEntries.{WrittenEntries, IsMerged, KnowsMade}
-use Rattle.comp_trace.specs.Rounds.{Learns}
+use Rattle.comp_trace.specs.RoundsOfMeetings.{Learns}
 use Rattle.comp_trace.specs.declared.text.line.Action.{Action}
 use Rattle.comp_trace.specs.declared.text.line.Action.TheVariants.{Root, Load, Get, Store, Put, New, Nil, Immediate}
 use Rattle.comp_trace.proofs.Merging.{mine, others}

@@ -3,7 +3,7 @@ use Rattle.std.proofs.Common.{◌≡◌, ℕ, ◌+◌, ◌^◌, ◌<◌, List, [
 use Rattle.std.specs.Prelude.{option_and_then}
 use Rattle.std.proofs.lemmas.Bool.{cases_lt, le-leb, lt-leb}
 use Rattle.comp_trace.specs.Grammar.{clipped, number_of, parts}
-use Rattle.comp_trace.specs.Marks.{mark_before, mark_of, marks_from, short_number, MarkBefore}
+use Rattle.comp_trace.specs.MarksText.{mark_before, mark_of, marks_from, short_number, MarkBefore}
 use Rattle.comp_trace.proofs.Lines.{some_part}
 use Rattle.comp_trace.proofs.LineForms.{all_digits}
 use Rattle.comp_trace.proofs.Splits.{cut_at, digits_without, first_cut, uncut}

@@ -9,7 +9,7 @@ use Rattle.comp_mutator.specs.Passes.{builds_of, did, number_of, seen, turns_of,
 use Rattle.comp_mutator.specs.Pass.{Pass}
 use Rattle.comp_mutator.specs.Calls.{Grows, Meets}
 use Rattle.comp_mutator.proofs.Growing.{begins_then, grows_none, grows_then, same_begins}
-use Rattle.comp_trace.specs.Rounds.{Met}
+use Rattle.comp_trace.specs.RoundsOfMeetings.{Met}
 
 -- One meeting: each of the two has then seen, of each page, what one of the two had seen.
 pub record IsMeeting (other_old old other_new new : Pass) : Type 0 where

@@ -9,7 +9,7 @@ use Rattle.comp_mutator.specs.Pass.{Pass}
 use Rattle.comp_mutator.specs.Calls.{Meets}
 use Rattle.comp_mutator.specs.Mutators.{pass_of}
 use Rattle.comp_mutator.specs.declared.mutator.Mutator.{Mutator}
-use Rattle.comp_trace.specs.Rounds.{row, HaveMet}
+use Rattle.comp_trace.specs.RoundsOfMeetings.{row, HaveMet}
 use Rattle.comp_trace.proofs.MeetingRounds.{meeting_of, met_more, MetBelow}
 
 -- what holds of each still holds after one is replaced

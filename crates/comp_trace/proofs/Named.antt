@@ -4,7 +4,7 @@ use Rattle.std.specs.Prelude.{option_and_then}
 use Rattle.std.proofs.lemmas.Bool.{cases_lt, leb-false, le-leb, lt-leb}
 use Rattle.comp_trace.specs.Grammar.{clipped, numbers_of, parts}
 use Rattle.comp_trace.specs.Fronts.{HasNone, NumbersOfLine, ReadsNumbers}
-use Rattle.comp_trace.specs.Roots.{new_root_of, new_roots_from, root_before, root_named, IsRootWithin, RootBefore}
+use Rattle.comp_trace.specs.RootsText.{new_root_of, new_roots_from, root_before, root_named, IsRootWithin, RootBefore}
 use Rattle.comp_trace.specs.declared.text.roots.NewRoot.{NewRoot}
 use Rattle.comp_trace.specs.declared.text.roots.NewRoot.TheVariants.{Address, Register}
 use Rattle.comp_trace.proofs.Lines.{some_part}

@@ -17,8 +17,8 @@ use Rattle.comp_mutator.specs.Allocations.{AskedRefused}
 use Rattle.comp_mutator.specs.Writes.{DataRefused, ReferenceRefused}
 use Rattle.comp_mutator.specs.Refusal.TheVariants.{Busy}
 use Rattle.comp_trace.specs.Acting.{Refuses}
-use Rattle.comp_trace.specs.Builds.{kind_if}
-use Rattle.comp_trace.specs.Rounds.{Met}
+use Rattle.comp_trace.specs.LineBuilds.{kind_if}
+use Rattle.comp_trace.specs.RoundsOfMeetings.{Met}
 use Rattle.comp_trace.specs.declared.text.line.Action.{Action}
 use Rattle.comp_trace.specs.declared.text.line.Action.TheVariants.{Root, Load, Get, Store, Put, New, Nil, Immediate}
 use Rattle.comp_trace.proofs.BetweenRounds.{IsCrew}

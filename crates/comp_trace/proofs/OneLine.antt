@@ -21,7 +21,7 @@ use Rattle.comp_mutator.specs.Reads.{FieldRefused, MayBuildTouched, Reads}
 use Rattle.comp_mutator.specs.Writes.{ReferenceRefused, Writes}
 use Rattle.comp_mutator.specs.Refusal.{Refusal}
 use Rattle.comp_trace.specs.Acting.{shown_at, Steps}
-use Rattle.comp_trace.specs.Builds.{kind_if, slid_page, BuildsTouched}
+use Rattle.comp_trace.specs.LineBuilds.{kind_if, slid_page, BuildsTouched}
 use Rattle.comp_trace.specs.Immediates.{IsImmediateWith}
 use Rattle.comp_trace.specs.declared.text.line.Action.{Action}
 use Rattle.comp_trace.specs.declared.text.line.Action.TheVariants.{Root, Load, Get, Store, Put, New, Nil, Immediate}

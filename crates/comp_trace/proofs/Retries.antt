@@ -24,7 +24,7 @@ use Rattle.comp_mutator.proofs.LowestPages.{allocates_then, allocation_refused_t
 use Rattle.comp_trace.specs.declared.text.line.Action.{Action}
 use Rattle.comp_trace.specs.declared.text.line.Action.TheVariants.{Root, Load, Get, Store, Put, New, Nil, Immediate}
 use Rattle.comp_trace.specs.Acting.{Refuses, Steps}
-use Rattle.comp_trace.specs.Builds.{kind_if, slid_page, BuildsTouched}
+use Rattle.comp_trace.specs.LineBuilds.{kind_if, slid_page, BuildsTouched}
 use Rattle.comp_trace.proofs.OneLine.{made}
 
 -- calls on a field met busy pages

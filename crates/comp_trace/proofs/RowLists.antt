@@ -16,11 +16,11 @@ use Rattle.comp_mutator.specs.Merged.{written_by}
 use Rattle.comp_mutator.specs.Mutators.{cells_of, pass_of, setup_of, AreMutatorsOf}
 use Rattle.comp_mutator.specs.declared.mutator.Mutator.{Mutator}
 use Rattle.comp_mutator.specs.declared.space.Space.{Space}
-use Rattle.comp_trace.specs.Builds.{built_by, HaveBuilt, HaveSeenBuilt}
+use Rattle.comp_trace.specs.LineBuilds.{built_by, HaveBuilt, HaveSeenBuilt}
 use Rattle.comp_trace.specs.WrittenEntries.{written_by_each, AreMerged, WrittenEntries, HaveAll}
 use Rattle.comp_trace.specs.Lines.{with_entries}
 use Rattle.comp_trace.specs.AllMutators.{AreAll}
-use Rattle.comp_trace.specs.Rounds.{row, Advances, AreLater, DidNothing, Learns}
+use Rattle.comp_trace.specs.RoundsOfMeetings.{row, Advances, AreLater, DidNothing, Learns}
 use Rattle.comp_trace.specs.declared.text.line.Action.{Action}
 use Rattle.comp_trace.proofs.BetweenRounds.{dids, IsCrew}
 use Rattle.comp_trace.proofs.Building.{BuiltTheirs, HaveStrange, SeeTheirs}

@@ -21,7 +21,7 @@ use Rattle.comp_mutator.specs.Orders.{HasNumber, IsInOrder}
 use Rattle.comp_mutator.specs.declared.mutator.Mutator.{Mutator}
 use Rattle.comp_mutator.specs.declared.space.Space.{Space}
 use Rattle.comp_trace.specs.AllMutators.{AreAll}
-use Rattle.comp_trace.specs.Builds.{built_by, HaveBuilt}
+use Rattle.comp_trace.specs.LineBuilds.{built_by, HaveBuilt}
 use Rattle.comp_trace.specs.WrittenEntries.{DidNothingYet}
 use Rattle.comp_trace.specs.TraceLines.{AllFit}
 use Rattle.comp_trace.specs.declared.steps.shown.Shown.{Shown}

@@ -6,7 +6,7 @@ use Rattle.comp_trace.specs.declared.steps.shown.Shown.{Shown}
 use Rattle.comp_trace.specs.declared.text.line.Line.{Line}
 use Rattle.comp_cycles.specs.Cycles.{Cycle, heap_after, numbers_left, story, Follow, IsOneLife, IsWriting}
 use Rattle.comp_cycles.specs.Stable.{StableHeap, lived}
-use Rattle.comp_cycles.specs.Numbered.{first_numbers, first_numbered, IsNumberedAs}
+use Rattle.comp_cycles.specs.NumberedHeaps.{first_numbers, first_numbered, IsNumberedAs}
 use Rattle.comp_cycles.specs.Merged.{CanMerge}
 use Rattle.comp_cycles.specs.Ends.{cycle_of, setup_in, IsEndOf}
 use Rattle.comp_cycles.proofs.Chapters.{rising}

@@ -20,10 +20,10 @@ use Rattle.comp_mutator.specs.Mutators.{pass_of}
 use Rattle.comp_mutator.specs.declared.mutator.Mutator.{Mutator}
 use Rattle.comp_mutator.specs.Refusal.{Refusal}
 use Rattle.comp_trace.specs.Acting.{null_registers, registers_after, shown_at}
-use Rattle.comp_trace.specs.Builds.{built_after, touched, BuildOn, HaveBuilt, HaveSeenBuilt, SeeBuiltOn}
+use Rattle.comp_trace.specs.LineBuilds.{built_after, touched, BuildOn, HaveBuilt, HaveSeenBuilt, SeeBuiltOn}
 use Rattle.comp_trace.specs.WrittenEntries.{written_by_each, AreMerged, WrittenEntries, HaveSeen, HaveSeenAll, HaveStart, IsMerged, KnowTheirs}
 use Rattle.comp_trace.specs.Replays.{CannotGoOn, GoesOn, RanTo, HasReplayed}
-use Rattle.comp_trace.specs.Rounds.{Advances, AreLater, DidNothing, IsTurnedDown, Learns, RanLine, WasTurnedDown}
+use Rattle.comp_trace.specs.RoundsOfMeetings.{Advances, AreLater, DidNothing, IsTurnedDown, Learns, RanLine, WasTurnedDown}
 use Rattle.comp_trace.specs.Runs.{beginning, Does, Moment, Runs}
 use Rattle.comp_trace.specs.Lines.{with_entries, Acts}
 use Rattle.comp_trace.specs.declared.text.line.Action.{Action}

@@ -17,10 +17,10 @@ use Rattle.comp_mutator.specs.declared.mutator.Mutator.{Mutator}
 use Rattle.comp_mutator.specs.Refusal.{Refusal}
 use Rattle.comp_mutator.specs.declared.space.Space.{Space}
 use Rattle.comp_trace.specs.Acting.{Answers, Refuses}
-use Rattle.comp_trace.specs.Builds.{built_after, BuildOn, BuildsTouched, SeeBuiltOn}
+use Rattle.comp_trace.specs.LineBuilds.{built_after, BuildOn, BuildsTouched, SeeBuiltOn}
 use Rattle.comp_trace.specs.WrittenEntries.{written_by_each, AreMerged, HaveAll, HaveSeenAll, HaveStart}
 use Rattle.comp_trace.specs.AllMutators.{AreAll}
-use Rattle.comp_trace.specs.Rounds.{row, AreLater, DidNothing, HasMetAll, IsTurnedDown, Learns, Met, RanLine}
+use Rattle.comp_trace.specs.RoundsOfMeetings.{row, AreLater, DidNothing, HasMetAll, IsTurnedDown, Learns, Met, RanLine}
 use Rattle.comp_trace.specs.declared.text.line.Action.{Action}
 use Rattle.comp_trace.proofs.BetweenRounds.{dids, IsCrew}
 use Rattle.comp_trace.proofs.Building.{builds_on, see_built_on, BuiltTheirs, HaveStrange, SeeTheirs}

@@ -14,7 +14,7 @@ use Rattle.comp_mutator.specs.Writes.{DataRefused, ReferenceRefused, Writes}
 use Rattle.comp_mutator.specs.Refusal.{Refusal}
 use Rattle.comp_trace.specs.declared.text.line.Action.{Action}
 use Rattle.comp_trace.specs.declared.text.line.Action.TheVariants.{Root, Load, Get, Store, Put, New, Nil, Immediate}
-use Rattle.comp_trace.specs.Builds.{kind_if, touched, BuildsTouched}
+use Rattle.comp_trace.specs.LineBuilds.{kind_if, touched, BuildsTouched}
 use Rattle.comp_trace.specs.Immediates.{HasNoImmediate, IsImmediateWith}
 use Rattle.comp_trace.specs.declared.steps.shown.Shown.{Shown}
 

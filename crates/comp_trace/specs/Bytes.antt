@@ -16,7 +16,7 @@ use Rattle.comp_mutator.specs.Merged.{written_by}
 use Rattle.comp_mutator.specs.Refusal.{Refusal}
 use Rattle.comp_mutator.specs.Refusal.TheVariants.{Busy}
 use Rattle.comp_trace.specs.Acting.{Refuses}
-use Rattle.comp_trace.specs.Builds.{is_built}
+use Rattle.comp_trace.specs.LineBuilds.{is_built}
 use Rattle.comp_trace.specs.Grammar.{trace_of, IsReadAs}
 use Rattle.comp_trace.specs.Runs.{beginning, Moment, Runs}
 use Rattle.comp_trace.specs.Lines.{with_entries}

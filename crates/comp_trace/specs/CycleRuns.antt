@@ -4,7 +4,7 @@ use Rattle.heap_layout.specs.Heap.{Heap}
 use Rattle.comp_cycles.specs.Cycles.{Cycle, entries_of, given_left, heap_after, numbers_left, story, AreApart, Follow, IsCycleOf, IsOneLife, IsRising, IsWriting}
 use Rattle.comp_cycles.specs.Ends.{cycle_of, IsEndOf}
 use Rattle.comp_cycles.specs.Stable.{lived}
-use Rattle.comp_cycles.specs.Numbered.{first_numbers, first_numbered}
+use Rattle.comp_cycles.specs.NumberedHeaps.{first_numbers, first_numbered}
 use Rattle.comp_cycles.specs.declared.finished.Finished.{Finished}
 use Rattle.comp_trace.specs.declared.steps.shown.Shown.{Shown}
 use Rattle.comp_trace.specs.Traces.{mutators_of, roots_of}
@@ -48,8 +48,8 @@ IsCycleHaltOf mutators fresh lines heap Unplanned = Unit {0}
 IsCycleHaltOf mutators fresh lines heap halt = IsHaltOf mutators fresh lines heap halt
 
 -- One of several cycles: these lines were run over the heap and showed these values, and then the next heap was marked
--- by the marks that were given for it, or by what its roots reach. If roots were named, it has those that they name when
--- the run ends; else the roots stay.
+-- by the marks that were given for it, or by what its roots reach. If roots were named, it has those that they name
+-- when the run ends; else the roots stay.
 pub record IsPart (mutators fresh : ℕ) (lines : List Line) (shown : List Shown) (given : Option (List ℕ)) (named : Option (List NewRoot)) (heap : Heap) (c : Cycle) : Type 0 where
   pub run : IsRun mutators fresh lines shown heap c
   pub cycle : IsCycleOf heap c

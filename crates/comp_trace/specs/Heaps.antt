@@ -5,7 +5,7 @@ use Rattle.heap_layout.specs.Heap.{Heap, IsClosed}
 use Rattle.comp_mutator.specs.Pass.{Pass}
 use Rattle.comp_mutator.specs.Finishes.{builds_in, history_of, IsFinished}
 use Rattle.comp_mutator.specs.Finished.{Finished}
-use Rattle.comp_trace.specs.Builds.{built_by}
+use Rattle.comp_trace.specs.LineBuilds.{built_by}
 use Rattle.comp_trace.specs.declared.steps.shown.Shown.{Shown}
 use Rattle.comp_trace.specs.declared.text.line.Line.{Line}
 use Rattle.comp_trace.specs.Bytes.{flipped, no_entries, CutsShort, RunsThrough}

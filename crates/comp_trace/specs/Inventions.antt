@@ -10,7 +10,7 @@ use Rattle.comp_mutator.specs.Locks.{Journals}
 use Rattle.comp_mutator.specs.Reads.{Reads}
 use Rattle.comp_mutator.specs.Setup.{Setup}
 use Rattle.comp_mutator.specs.Refusal.TheVariants.{JournalFull}
-use Rattle.comp_trace.specs.Builds.{kind_if}
+use Rattle.comp_trace.specs.LineBuilds.{kind_if}
 use Rattle.comp_trace.specs.declared.steps.shown.Shown.{Shown}
 use Rattle.comp_trace.specs.declared.text.line.Action.{Action}
 use Rattle.comp_trace.specs.declared.text.line.Action.TheVariants.{Root, Load, Get, Store, Put, New, Nil, Immediate}

@@ -1,13 +1,13 @@
 pub mod Grammar
 pub mod Fronts
 pub mod Traces
-pub mod Marks
-pub mod Roots
+pub mod MarksText
+pub mod RootsText
 pub mod Acting
 pub mod TraceLines
-pub mod Builds
+pub mod LineBuilds
 pub mod WrittenEntries
-pub mod Rounds
+pub mod RoundsOfMeetings
 pub mod AllMutators
 pub mod Lines
 pub mod AllMet
@@ -15,7 +15,7 @@ pub mod Runs
 pub mod Replays
 pub mod Bytes
 pub mod Heaps
-pub mod Causes
+pub mod LineCauses
 pub mod Races
 pub mod Runners
 pub mod Chains

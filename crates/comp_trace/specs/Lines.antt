@@ -14,7 +14,7 @@ use Rattle.comp_mutator.specs.Objects.{page_at, offset_at}
 use Rattle.comp_mutator.specs.Fields.{IsFieldOf}
 use Rattle.comp_mutator.specs.Reads.{Reads}
 use Rattle.comp_mutator.specs.Allocations.{own_page}
-use Rattle.comp_trace.specs.Builds.{kind_if}
+use Rattle.comp_trace.specs.LineBuilds.{kind_if}
 use Rattle.comp_trace.specs.Immediates.{IsImmediateWith}
 use Rattle.comp_trace.specs.declared.text.line.Action.{Action}
 use Rattle.comp_trace.specs.declared.text.line.Action.TheVariants.{Root, Load, Get, Store, Put, New, Nil, Immediate}

@@ -6,7 +6,7 @@ use Rattle.comp_cycles.specs.Cycles.{Cycle, given_after, heap_after, numbers_aft
 use Rattle.comp_cycles.specs.Ends.{cycle_of, setup_in, IsRefusedFor}
 use Rattle.comp_cycles.specs.Finishes.{journals_of}
 use Rattle.comp_cycles.specs.NextHeap.{next_faults}
-use Rattle.comp_cycles.specs.Numbered.{IsNumberedAs}
+use Rattle.comp_cycles.specs.NumberedHeaps.{IsNumberedAs}
 use Rattle.comp_cycles.specs.Stable.{StableHeap}
 use Rattle.comp_cycles.specs.declared.finished.Finished.{Finished}
 use Rattle.reachable_cycles.specs.NextRoots.{IsRefusedNext}

@@ -9,9 +9,9 @@ use Rattle.comp_mutator.specs.Merged.{written_by}
 use Rattle.comp_mutator.specs.declared.mutator.Mutator.{Mutator}
 use Rattle.comp_mutator.specs.Refusal.{Refusal}
 use Rattle.comp_mutator.specs.Refusal.TheVariants.{Busy}
-use Rattle.comp_trace.specs.Builds.{is_built, HaveBuilt, HaveSeenBuilt}
+use Rattle.comp_trace.specs.LineBuilds.{is_built, HaveBuilt, HaveSeenBuilt}
 use Rattle.comp_trace.specs.WrittenEntries.{written_by_each, AreMerged, WrittenEntries, HaveAll, HaveSeen}
-use Rattle.comp_trace.specs.Rounds.{IsTurnedDown}
+use Rattle.comp_trace.specs.RoundsOfMeetings.{IsTurnedDown}
 use Rattle.comp_trace.specs.Runs.{beginning, Moment, Runs}
 use Rattle.comp_trace.specs.Lines.{with_entries}
 use Rattle.comp_trace.specs.declared.text.fault.TraceFault.{TraceFault}

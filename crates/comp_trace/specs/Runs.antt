@@ -8,7 +8,7 @@ use Rattle.comp_mutator.specs.Lists.{but}
 use Rattle.comp_mutator.specs.Lawful.{IsLawful}
 use Rattle.comp_mutator.specs.Locks.{Journals}
 use Rattle.comp_trace.specs.Acting.{null_registers, registers_after, shown_at}
-use Rattle.comp_trace.specs.Builds.{built_after, touched}
+use Rattle.comp_trace.specs.LineBuilds.{built_after, touched}
 use Rattle.comp_trace.specs.declared.text.line.Line.{Line}
 use Rattle.comp_trace.specs.declared.steps.shown.Shown.{Shown}
 use Rattle.comp_trace.specs.Lines.{with_entries, Acts}

@@ -1,9 +1,9 @@
 /* A runtime that forgets a root, and how that is found. Its heap at rest, of edition four, has ten lists, each in a
-   variable of C, and garbage between the last five. At a collection it forgets one variable; then it goes on: it puts a
-   pair before each list, walks it, and collects again, now with all variables. Each try is a process of its own. With
-   plain addresses a value of before the collection is mostly that of another object. With a space that is turned after
-   each collection (compressor_space_turn) it leads nowhere: each try ends by a fault of the memory. Prints how many of the
-   ten were found either way. A call for which there was no memory is made once more. */
+   variable of C, and garbage between the last five. At a collection it forgets one variable; then it goes on: it
+   puts a pair before each list, walks it, and collects again, now with all variables. Each try is a process of its
+   own. With plain addresses a value of before the collection is mostly that of another object. With a space that is
+   turned after each collection (compressor_space_turn) it leads nowhere: each try ends by a fault of the memory.
+   Prints how many of the ten were found either way. A call for which there was no memory is made once more. */
 #include "compressor_rest.h"
 
 #include <stdio.h>

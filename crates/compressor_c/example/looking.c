@@ -265,7 +265,8 @@ static void look(compressor_end *end, uint32_t first, uint64_t own) {
     ANSWERS(compressor_end_build(end, 2, 0), COMPRESSOR_NO_SUCH_MUTATOR, 2);
 }
 
-/* Words and roots come to rest, in an array in which a survey finds what they reach. Nobody built page 0 if not `built`. */
+/* Words and roots come to rest, in an array in which a survey finds what they reach. Nobody built page 0 if not
+   `built`. */
 static void rests(compressor_end *end, int built, uint64_t own) {
     static uint64_t words[3 * 64 + 1];
     uint64_t roots[3] = {1, 1, 1};

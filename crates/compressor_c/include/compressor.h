@@ -391,8 +391,8 @@ uint32_t compressor_version(void);
 
 /* The whole collection: slides what the roots reach into `to`, from its first word on, and makes the roots lead there.
    Answers the live words; those of `to` behind them stay. in_place: the same down to the first of the words, with no
-   second memory. A weak table, as for finalizers, is an object of weak words that is a root: each becomes null where its
-   object dies. Tables take two bits a word, 4 bytes for each 64 words, and 4 for each object that is reached.
+   second memory. A weak table, as for finalizers, is an object of weak words that is a root: each becomes null where
+   its object dies. Tables take two bits a word, 4 bytes for each 64 words, and 4 for each object that is reached.
    Refusals, after which all is as it was: BAD_EDITION; TOO_LARGE; memory, or a fault that is there: BAD_ROOT,
    BAD_REFERENCE, BAD_WEAK, OBJECT_TOO_LONG, OBJECT_PAST_END or OVERLAP; TOO_SHORT (the live words). */
 compressor_answer compressor_collect(uint32_t edition, const uint64_t *words, size_t word_count, uint64_t *roots,

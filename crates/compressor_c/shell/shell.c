@@ -1,7 +1,7 @@
 /* shell.c: what the exports of this crate cannot do. A slice of Rattle has no null pointer, so that of an array of
    length 0 becomes another one here; and Rattle has no counter for the names of crews. Nothing here is proved: each
-   function makes one call, with its own arguments. tools/join links it into the archive, where the exports that it calls
-   are hidden. */
+   function makes one call, with its own arguments. tools/join links it into the archive, where the exports that it
+   calls are hidden. */
 #include "compressor.h"
 
 static const uint64_t none[1] = {0};

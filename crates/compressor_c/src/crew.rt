@@ -2,7 +2,7 @@
 ghost use Rattle.std.specs.Prelude.{◌≡◌, None};
 ghost use Rattle.comp_handle.specs.Crewing.{Takes};
 ghost use Rattle.comp_handle.specs.Joining.{Gives, IsToldFrom};
-ghost use Rattle.comp_handle.specs.Kinds.{crew_in, Turns};
+ghost use Rattle.comp_handle.specs.HandleKinds.{crew_in, Turns};
 ghost use Rattle.comp_handle.specs.Turning.{Finishes, IsUnfinished};
 
 use comp_handle::{Answer, Handle};

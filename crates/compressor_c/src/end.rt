@@ -4,7 +4,7 @@ ghost use Rattle.comp_handle.specs.Copying.{CopiesEndRoots};
 ghost use Rattle.comp_handle.specs.Dumping.{WritesDump};
 ghost use Rattle.comp_handle.specs.Ending.{pages_at_end, CopiesEntry, CopiesPage, Tells};
 ghost use Rattle.comp_handle.specs.Facts.{CountsEnd};
-ghost use Rattle.comp_handle.specs.Kinds.{end_in, Asks, Turns};
+ghost use Rattle.comp_handle.specs.HandleKinds.{end_in, Asks, Turns};
 ghost use Rattle.comp_handle.specs.Settling.{RestsAt};
 ghost use Rattle.comp_handle.specs.Turning.{Follows, FollowsReached, IsUnfollowed, IsUnreached};
 ghost use Rattle.comp_handle.specs.declared.ending.Question.TheVariants as questions;
@@ -86,8 +86,8 @@ pub extern "C" fn compressor_end_build(
     comp_handle::ask(alloc, end, Question::EndBuild(mutator, number))
 }
 
-/// Makes the heap with which the next cycle begins, with these marks and these roots, to-space addresses of the finished
-/// heap or null. The handle of the heap keeps it then, and that of the end is empty.
+/// Makes the heap with which the next cycle begins, with these marks and these roots, to-space addresses of the
+/// finished heap or null. The handle of the heap keeps it then, and that of the end is empty.
 #[unsafe(no_mangle)]
 pub extern "C" fn compressor_c_end_next_by_marks(
     alloc: Global,

@@ -2,7 +2,7 @@
 ghost use Rattle.std.specs.Prelude.{◌≡◌, None};
 ghost use Rattle.comp_handle.specs.Facts.{CountsHeap};
 ghost use Rattle.comp_handle.specs.Imaging.{ReadsImage, WritesImage};
-ghost use Rattle.comp_handle.specs.Kinds.{heap_in, Asks, Turns};
+ghost use Rattle.comp_handle.specs.HandleKinds.{heap_in, Asks, Turns};
 ghost use Rattle.comp_handle.specs.Making.{MakesHeap, MarksHeap};
 ghost use Rattle.comp_handle.specs.Moves.{JudgesMoved};
 ghost use Rattle.comp_handle.specs.Turning.{IsUnplanned, Plans};

@@ -1,7 +1,7 @@
 //! Exports for a job that marks a heap at rest by threads of the caller's.
 ghost use Rattle.std.specs.Prelude.{◌≡◌, None};
 ghost use Rattle.comp_handle.specs.Helping.{BeginsJob, Helps};
-ghost use Rattle.comp_handle.specs.Kinds.{job_in, Asks, Turns};
+ghost use Rattle.comp_handle.specs.HandleKinds.{job_in, Asks, Turns};
 ghost use Rattle.comp_handle.specs.Lending.{IsStillShared};
 ghost use Rattle.comp_handle.specs.Resting.{Shares, Surveys};
 

@@ -4,7 +4,7 @@ ghost use Rattle.comp_handle.specs.Calling.{Calls, Does};
 ghost use Rattle.comp_handle.specs.Copying.{CopiesRoots};
 ghost use Rattle.comp_handle.specs.Facts.{Counts};
 ghost use Rattle.comp_handle.specs.Joining.{AreApart, Brings};
-ghost use Rattle.comp_handle.specs.Kinds.{mutator_in, Asks};
+ghost use Rattle.comp_handle.specs.HandleKinds.{mutator_in, Asks};
 ghost use Rattle.comp_handle.specs.Seeing.{SeesBy};
 ghost use Rattle.comp_handle.specs.declared.calling.Call.TheVariants as calls;
 

@@ -3,7 +3,7 @@ ghost use Rattle.std.specs.Prelude.{◌≡◌, None};
 ghost use Rattle.comp_handle.specs.Crewing.{Flips};
 ghost use Rattle.comp_handle.specs.Facts.{CountsPlan};
 ghost use Rattle.comp_handle.specs.Judging.{JudgesBy};
-ghost use Rattle.comp_handle.specs.Kinds.{plan_in, Asks};
+ghost use Rattle.comp_handle.specs.HandleKinds.{plan_in, Asks};
 ghost use Rattle.comp_handle.specs.Planning.{CopiesPlanned, ForwardsBy};
 ghost use Rattle.comp_handle.specs.Resting.{Shares};
 ghost use Rattle.comp_handle.specs.Telling.{ExplainsBy};

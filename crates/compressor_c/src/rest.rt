@@ -1,6 +1,6 @@
 //! Exports for a heap at rest: collections, surveys, and tables that are made before.
 ghost use Rattle.std.specs.Prelude.{◌≡◌, None};
-ghost use Rattle.comp_handle.specs.Kinds.{survey_in, tables_in, Asks, Fills, Turns};
+ghost use Rattle.comp_handle.specs.HandleKinds.{survey_in, tables_in, Asks, Fills, Turns};
 ghost use Rattle.comp_handle.specs.Lending.{CollectsLent, CollectsLentInPlace, IsStillShared, IsUnlent, Reserves, Returns, SurveysLent};
 ghost use Rattle.comp_handle.specs.Resting.{Collects, CollectsInPlace, CountsSurvey, ForwardsRoots, ForwardsWeak, Shares, Slides, SurveysByMarks, SurveysByRoots};
 

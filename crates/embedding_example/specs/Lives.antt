@@ -4,7 +4,7 @@ use Rattle.heap_layout.specs.Heap.{Heap}
 use Rattle.comp_mutator.specs.Cycles.{heap_after, IsChapter, IsCycleOf, IsOneLife}
 use Rattle.comp_mutator.specs.Ends.{cycle_of, IsEndOf}
 use Rattle.comp_mutator.specs.Finished.{Finished}
-use Rattle.comp_mutator.specs.Numbered.{first_numbers, first_numbered}
+use Rattle.comp_mutator.specs.NumberedHeaps.{first_numbers, first_numbered}
 
 -- With these marks, the next heap follows what is left of this heap. The cycle is the first chapter of the life of its
 -- objects, numbered from 1 by rising address.

@@ -18,8 +18,8 @@ writer_of counted = counted.inner.ghost_name
 abbrev pub failures_of : {R : Type 0} → Counted R → ℕ
 failures_of counted = counted.failures
 
--- whether all bytes that were taken through this counter have been flushed since; of what the writer took before nothing
--- is said
+-- whether all bytes that were taken through this counter have been flushed since; of what the writer took before
+-- nothing is said
 abbrev pub is_flushed_of : {R : Type 0} → Counted R → Bool
 is_flushed_of counted = counted.flushed
 

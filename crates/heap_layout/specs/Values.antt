@@ -1,5 +1,5 @@
--- What a root, a reference or a weak word may be besides null and the address of an object. In edition four it may be an
--- immediate: a word with its top bit set, which leads nowhere. The other editions have no immediates.
+-- What a root, a reference or a weak word may be besides null and the address of an object. In edition four it may be
+-- an immediate: a word with its top bit set, which leads nowhere. The other editions have no immediates.
 use Rattle.std.specs.Prelude.{◌≡◌, ℕ, ◌^◌, ◌==◌, ◌||◌, Bool, true, false, nat_le}
 use Rattle.heap_layout.specs.declared.edition.Edition.{Edition}
 use Rattle.heap_layout.specs.declared.edition.Edition.TheVariants.{One, Two, Three, Four}

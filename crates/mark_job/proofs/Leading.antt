@@ -6,7 +6,7 @@ use Rattle.heap_layout.specs.Bits.{bit}
 use Rattle.heap_layout.specs.Heap.{object_at}
 use Rattle.stopped_heap.specs.Reached.{LeadInto, by_root, by_reference}
 use Rattle.mark_job.specs.Asked.{Asked, IsMetIn}
-use Rattle.mark_job.specs.Looking.{LeadIn, LeadsIn}
+use Rattle.mark_job.specs.LeadingWords.{LeadIn, LeadsIn}
 
 -- an object that is reached begins at a word
 pub met-inside : (asked : Asked) (i : ℕ) → IsMetIn asked i → i < length asked.words

@@ -1,3 +1,3 @@
 pub mod Asked
 pub mod Lanes
-pub mod Looking
+pub mod LeadingWords

@@ -1,7 +1,7 @@
 //! Looks up to which objects references lead.
 ghost use Rattle.std.specs.Prelude.{◌*◌, ◌<◌, ◌≤◌, length};
 ghost use Rattle.mark_job.specs.Asked.{IsMetIn, AreMetIn};
-ghost use Rattle.mark_job.specs.Looking.{LeadsIn, LeadIn};
+ghost use Rattle.mark_job.specs.LeadingWords.{LeadsIn, LeadIn};
 
 use crate::image::Image;
 use crate::lane::Lane;

@@ -9,7 +9,7 @@ use Rattle.heap_layout.specs.Bits.{bit}
 use Rattle.heap_layout.specs.Header.{size_of}
 use Rattle.heap_layout.specs.Heap.{Heap, header_at, object_at, live, IsClosed}
 use Rattle.mark_tables.specs.LiveWords.{size, live_words}
-use Rattle.mark_tables.specs.Starts.{AreStarts}
+use Rattle.mark_tables.specs.SlidStarts.{AreStarts}
 use Rattle.mark_tables.proofs.Runs.{zeros-bit}
 use Rattle.mark_tables.proofs.Sizes.{words-below, live_words-next, live_words-all, live_fit}
 

@@ -6,7 +6,7 @@ use Rattle.std.proofs.lemmas.List.Folds.{list_any_at}
 use Rattle.heap_layout.specs.Bits.{bit}
 use Rattle.heap_layout.specs.Heap.{Heap, IsClosed}
 use Rattle.heap_layout.proofs.Bounds.{words_most}
-use Rattle.mark_tables.specs.Bits.{passing, set_bits, AreOffsets}
+use Rattle.mark_tables.specs.MarkBitmap.{passing, set_bits, AreOffsets}
 use Rattle.mark_tables.specs.LiveWords.{is_live}
 use Rattle.mark_tables.proofs.Counting.{passing-block}
 use Rattle.mark_tables.proofs.NewPlaces.{counted-below}

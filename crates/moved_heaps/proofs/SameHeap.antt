@@ -19,7 +19,7 @@ use Rattle.comp_cycles.proofs.Living as living
 use Rattle.comp_history.specs.Lists.{look}
 use Rattle.heap_layout.specs.Values.{is_immediate}
 use Rattle.comp_cycles.proofs.ObjectWords.{words_by}
-use Rattle.comp_cycles.specs.Numbered.{Names, names_in, number_at, numbered_object, numbered_word, pointers_of, IsNumberedAs}
+use Rattle.comp_cycles.specs.NumberedHeaps.{Names, names_in, number_at, numbered_object, numbered_word, pointers_of, IsNumberedAs}
 use Rattle.comp_cycles.specs.Stable.{StableHeap}
 use Rattle.comp_cycles.proofs.Targets.{named_mark, object_long, object_word}
 use Rattle.comp_cycles.proofs.Targets as targets

@@ -4,7 +4,7 @@ use Rattle.heap_layout.specs.declared.edition.Edition.{Edition}
 use Rattle.heap_layout.specs.Values.{is_immediate}
 use Rattle.heap_layout.specs.Heap.{object_at}
 use Rattle.page_plan.specs.Sliding.{to_address}
-use Rattle.comp_cycles.specs.Numbered.{Names, number_at, numbered_object}
+use Rattle.comp_cycles.specs.NumberedHeaps.{Names, number_at, numbered_object}
 use Rattle.comp_cycles.specs.Stable.{StableHeap}
 use Rattle.moved_heaps.specs.Moved.{Moved}
 use Rattle.moved_heaps.specs.Ordered.{pair_at}

@@ -1,6 +1,6 @@
 //! The index of the marked objects: which number the object at a from-space index has.
 ghost use Rattle.std.specs.Prelude.{◌≡◌, ◌≢◌, ◌+◌, ◌*◌, ◌<◌, ◌≤◌, ◌^◌, ℕ, length, slice_index, IfOk, MatchOption};
-ghost use Rattle.mark_tables.specs.Bits.{set_bits, AreOffsets};
+ghost use Rattle.mark_tables.specs.MarkBitmap.{set_bits, AreOffsets};
 
 use heap_layout::{MarkedHeap, is_set, set};
 use std::alloc::{AllocError, Global};
@@ -16,7 +16,7 @@ pub(crate) struct Index {
 
 impl Model for Index {
     ghost use Rattle.std.specs.Prelude.{ℕ, List};
-    ghost use Rattle.mark_tables.specs.Bits.{set_bits, AreOffsets};
+    ghost use Rattle.mark_tables.specs.MarkBitmap.{set_bits, AreOffsets};
 
     ghost Value = { List ℕ };
 

@@ -3,7 +3,7 @@ ghost use Rattle.std.specs.Prelude.{◌≡◌, ◌≢◌, ◌<◌, ◌++◌, Boo
 ghost use Rattle.std.specs.List.Sorted.{IsPermutation};
 ghost use Rattle.heap_layout.specs.Heap.{Heap, from_address, live, IsClosed};
 ghost use Rattle.heap_layout.specs.Versions.{IsRead};
-ghost use Rattle.comp_cycles.specs.Numbered.{IsNumberedAs};
+ghost use Rattle.comp_cycles.specs.NumberedHeaps.{IsNumberedAs};
 ghost use Rattle.comp_cycles.specs.Stable.{StableHeap};
 ghost use Rattle.page_plan.specs.Sliding.{forward, to_address};
 ghost use Rattle.comp_dump.specs.declared.fault.DumpFault.TheVariants.{TrailingBytes};

@@ -8,7 +8,7 @@ use Rattle.std.proofs.lemmas.Nat.{ones_le_self}
 use Rattle.heap_layout.specs.Bits.{bit}
 use Rattle.heap_layout.specs.Header.{Head}
 use Rattle.heap_layout.specs.Heap.{Object}
-use Rattle.mark_tables.specs.Bits.{passing}
+use Rattle.mark_tables.specs.MarkBitmap.{passing}
 use Rattle.mark_tables.proofs.Counting.{passing-block, ones-halves}
 use Rattle.mark_tables.proofs.Passing.{passing-gap, passing-few}
 use Rattle.page_plan.specs.Planned.{AreFirst, AreStarts, Covers}

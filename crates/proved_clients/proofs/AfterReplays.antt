@@ -19,7 +19,7 @@ use Rattle.comp_mutator.specs.Orders.{number_of_mutator, IsInOrder}
 use Rattle.comp_mutator.specs.declared.mutator.Mutator.{Mutator}
 use Rattle.comp_mutator.specs.declared.space.Space.{Space}
 use Rattle.comp_trace.specs.AllMutators.{AreAll}
-use Rattle.comp_trace.specs.Rounds.{AreLater}
+use Rattle.comp_trace.specs.RoundsOfMeetings.{AreLater}
 use Rattle.comp_trace.proofs.Elements.{at_or}
 use Rattle.comp_trace.proofs.MetPairs.{each_set}
 use Rattle.proved_clients.specs.Histories.{StandsInHistory}

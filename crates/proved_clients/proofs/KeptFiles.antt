@@ -8,9 +8,9 @@ use Rattle.command_io.specs.declared.memory.MemoryFiles.{MemoryFiles}
 use Rattle.command_io.specs.declared.refusal.Output.TheVariants as outputs
 use Rattle.command_io.specs.declared.refusal.CommandRefusal.{CommandRefusal}
 use Rattle.command_io.specs.declared.refusal.CommandRefusal.TheVariants.{Layout, CannotWrite, Mutator, Sweep, Trace, Dump, Audit, Moved, Survey, CannotOpen, CannotCreate, ReadFailed, CannotPrint, NoSuchWord, BadMarks, OutOfMemory, BadRoots}
-use Rattle.commands.specs.Races.{Races, RefusesRace}
-use Rattle.commands.specs.Replays.{Replays, RefusesReplay, SomeRun}
-use Rattle.proved_clients.specs.Kept.{KeepsRaced, KeepsReplayed, KeptOrNot}
+use Rattle.commands.specs.RaceTask.{Races, RefusesRace}
+use Rattle.commands.specs.ReplayTask.{Replays, RefusesReplay, SomeRun}
+use Rattle.proved_clients.specs.KeptInMemory.{KeepsRaced, KeepsReplayed, KeptOrNot}
 
 -- beginning a file in memory changes none
 same_files : (from to : MemoryFiles) → IsUnkept (memory_disk from) from to → to ≡ from

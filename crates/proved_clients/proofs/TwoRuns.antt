@@ -6,12 +6,12 @@ use Rattle.command_io.specs.Memory.{bytes_at, memory_disk, WrittenIsThere}
 use Rattle.command_io.specs.declared.memory.MemoryFiles.{MemoryFiles}
 use Rattle.command_io.specs.declared.refusal.Output.TheVariants as outputs
 use Rattle.command_io.specs.declared.refusal.CommandRefusal.{CommandRefusal}
-use Rattle.command_line.specs.Nexts.{marks_path, roots_path}
-use Rattle.commands.specs.Nexts.{AreMarksGiven, AreRootsGiven, MakesNext}
+use Rattle.command_line.specs.NextArguments.{marks_path, roots_path}
+use Rattle.commands.specs.NextTask.{AreMarksGiven, AreRootsGiven, MakesNext}
 use Rattle.comp_trace.specs.declared.text.roots.NewRoot.{NewRoot}
 use Rattle.commands.specs.Successors.{TwoAreOneLife}
 use Rattle.commands.proofs.NextBytes.{known_next, AreKnownAt, AreRootsKnownAt}
-use Rattle.proved_clients.specs.Lives.{AreListedAt, KeepsNext, LivesOn}
+use Rattle.proved_clients.specs.TwoNexts.{AreListedAt, KeepsNext, LivesOn}
 
 -- the bytes at a path are all that can be read there
 only : (from : MemoryFiles) (path bytes : List ℕ) → bytes_at from path ≡ Some bytes

@@ -1,3 +1,3 @@
 pub mod Histories
-pub mod Kept
-pub mod Lives
+pub mod KeptInMemory
+pub mod TwoNexts

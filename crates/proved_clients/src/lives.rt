@@ -1,7 +1,7 @@
 //! What a caller of `next` can conclude about files in memory.
 ghost use Rattle.std.specs.Prelude.{◌≡◌, ◌-◌, ◌^◌, ◌<◌, ◌≤◌, OnOk};
 ghost use Rattle.heap_layout.specs.Counted.{failures_of};
-ghost use Rattle.proved_clients.specs.Lives.{LivesOn};
+ghost use Rattle.proved_clients.specs.TwoNexts.{LivesOn};
 
 use command_io::{CommandRefusal, MemoryFiles};
 use command_line::NextRun;

@@ -2,7 +2,7 @@
 ghost use Rattle.std.specs.Prelude.{◌≡◌, ◌≢◌, ◌-◌, ◌^◌, ◌<◌, ◌≤◌, Err, IfErr, OnOk};
 ghost use Rattle.heap_layout.specs.Counted.{failures_of};
 ghost use Rattle.command_io.specs.declared.refusal.CommandRefusal.TheVariants as refusals;
-ghost use Rattle.proved_clients.specs.Kept.{KeepsRaced, KeepsReplayed, KeptOrNot};
+ghost use Rattle.proved_clients.specs.KeptInMemory.{KeepsRaced, KeepsReplayed, KeptOrNot};
 
 use command_io::{CommandRefusal, MemoryFiles};
 use command_line::TraceRun;

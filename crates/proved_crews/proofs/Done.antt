@@ -16,7 +16,7 @@ use Rattle.comp_crew.specs.declared.fault.FinishFault.TheVariants as finish
 use Rattle.comp_handle.specs.Answers.{bare, of_layout}
 use Rattle.comp_handle.specs.Crewing.{Flips, FlipsOf, IsUnflipped, IsUntaken, Leaves, Takes}
 use Rattle.comp_handle.specs.Joining.{AreApart, Brings, Gives, IsToldFrom, Joins, Meets}
-use Rattle.comp_handle.specs.Kinds.{crew_in, end_in, heap_in, mutator_in, not_there, plan_in, Asks, Fills, Turns}
+use Rattle.comp_handle.specs.HandleKinds.{crew_in, end_in, heap_in, mutator_in, not_there, plan_in, Asks, Fills, Turns}
 use Rattle.comp_handle.specs.Turning.{of_finish, Finishes, FollowsReached, IsUnfinished, IsUnplanned, IsUnreached, Plans}
 use Rattle.comp_handle.specs.declared.answer.Answer.{Answer}
 use Rattle.comp_handle.specs.declared.kept.Kept.{Kept}

@@ -13,7 +13,7 @@ use Rattle.comp_crew.specs.declared.crew.Crew.{Crew}
 use Rattle.comp_crew.specs.declared.finishing.Ended.{Ended as End}
 use Rattle.comp_crew.specs.declared.member.Member.{Member}
 use Rattle.comp_handle.specs.Joining.{AreMet}
-use Rattle.comp_handle.specs.Kinds.{crew_in, mutator_in}
+use Rattle.comp_handle.specs.HandleKinds.{crew_in, mutator_in}
 use Rattle.comp_handle.specs.declared.kept.Kept.{Kept}
 use Rattle.comp_handle.specs.declared.kept.Kept.TheVariants as kept
 

@@ -3,7 +3,7 @@ ghost use Rattle.std.specs.Prelude.{◌≡◌, IsTrue};
 ghost use Rattle.heap_layout.specs.Heap.{Heap};
 ghost use Rattle.comp_crew.specs.Members.{setup_in};
 ghost use Rattle.comp_crew.specs.declared.crew.Crew.{Crew};
-ghost use Rattle.comp_handle.specs.Kinds.{plan_in};
+ghost use Rattle.comp_handle.specs.HandleKinds.{plan_in};
 ghost use Rattle.std.specs.Prelude.{Some};
 ghost use Rattle.proved_crews.specs.Crews.{AreFellows, AreOfOneCrew, HasGiven, HasTaken, HaveMet, KeepsCrew, KeepsEnd, KeepsFlip, KeepsHeap, KeepsMutator, KeepsNext};
 

@@ -1,8 +1,8 @@
 //! The marker in several threads. It is the breadth-first search of the plain marker, done by rounds, as graphs are
 //! searched in parallel, level by level: while many objects wait in the queue, each thread takes a run of them and
 //! looks up what their references lead to. The threads only read, and each answers a list. The caller then puts the
-//! lists in the queue, one after the other. So the queue is, object by object, the one that a single thread makes. While
-//! few objects wait, the caller follows them alone.
+//! lists in the queue, one after the other. So the queue is, object by object, the one that a single thread makes.
+//! While few objects wait, the caller follows them alone.
 ghost use Rattle.std.specs.Prelude.{◌≡◌, ℕ, ◌^◌, ◌-◌, ◌<◌, ◌≤◌, [], ◌++◌, true, false, fold, take, drop, get_or, length, All, IfErr, IfOk, OnOk};
 ghost use Rattle.std.specs.List.{flat_map};
 ghost use Rattle.heap_layout.specs.Bits.{bit};

@@ -10,7 +10,7 @@ use Rattle.heap_layout.specs.Values.{is_immediate, LeadsNowhere}
 use Rattle.heap_layout.proofs.Values.{nowhere-cases}
 use Rattle.heap_layout.proofs.Indexed.{at_below, read_at}
 use Rattle.comp_cycles.specs.Cycles.{AreApart}
-use Rattle.comp_cycles.specs.Numbered.{IsNumberedAs}
+use Rattle.comp_cycles.specs.NumberedHeaps.{IsNumberedAs}
 use Rattle.comp_cycles.specs.Stable.{StableHeap, Keeps, IsAmong, MayKeep, head_of, left_words, stepped}
 use Rattle.comp_cycles.proofs.Leaving.{left_other, left_long, left_at}
 use Rattle.reachability.specs.Reachable.{AreReachable}

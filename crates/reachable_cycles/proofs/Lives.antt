@@ -6,7 +6,7 @@ use Rattle.heap_layout.specs.declared.kind.Kind.TheVariants.{Header, Reference, 
 use Rattle.comp_journal.specs.declared.entry.Entry.{Entry}
 use Rattle.comp_history.specs.OneThread.{OneThreadHeap, first_heap, address_of, after}
 use Rattle.comp_cycles.specs.Cycles.{Cycle, Follow, IsCycleOf, AreApart, TellsChapter, given_left, entries_of, given_after, heap_after, names_of, numbers_after, rooted, roots_after, story, story_of}
-use Rattle.comp_cycles.specs.Numbered.{Names, numbered, step_of, first_numbers, first_numbered, IsNumberedAs}
+use Rattle.comp_cycles.specs.NumberedHeaps.{Names, numbered, step_of, first_numbers, first_numbered, IsNumberedAs}
 use Rattle.comp_cycles.specs.Stable.{StableHeap, Step, Keeps, MayKeep, IsLife, lived, stepped}
 use Rattle.comp_cycles.proofs.Chapters.{one_chapter, first_is, given_le}
 use Rattle.comp_cycles.proofs.Lives.{lived_parts}

@@ -10,7 +10,7 @@ use Rattle.heap_layout.specs.Values.{is_immediate}
 use Rattle.heap_layout.proofs.Bounds.{words_most}
 use Rattle.heap_layout.proofs.Values.{no-immediate, value-cases}
 use Rattle.comp_cycles.specs.Cycles.{AreApart}
-use Rattle.comp_cycles.specs.Numbered.{Names, names_in, number_at, numbered_object, pointers_of, IsNumberedAs}
+use Rattle.comp_cycles.specs.NumberedHeaps.{Names, names_in, number_at, numbered_object, pointers_of, IsNumberedAs}
 use Rattle.comp_cycles.specs.Stable.{StableHeap, IsAmong, head_of}
 use Rattle.comp_cycles.proofs.Kept.{there_is}
 use Rattle.comp_cycles.proofs.Living.{numbered_reference, number_immediate}

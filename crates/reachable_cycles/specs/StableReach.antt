@@ -1,10 +1,11 @@
--- Which objects of the stable heap its roots reach. A root is the number of an object, or 0, or in edition four an immediate.
+-- Which objects of the stable heap its roots reach. A root is the number of an object, or 0, or in edition four an
+-- immediate.
 use Rattle.std.specs.Prelude.{◌≡◌, ◌↔◌, ℕ, ◌+◌, ◌<◌, ◌≤◌, false, List, [], ◌∷◌, ◌++◌, slice_index}
 use Rattle.heap_layout.specs.Header.{refs_of}
 use Rattle.heap_layout.specs.Values.{is_immediate}
 use Rattle.comp_history.specs.OneThread.{first_heap}
 use Rattle.comp_cycles.specs.Cycles.{Cycle, entries_of, heap_after, names_of, rooted}
-use Rattle.comp_cycles.specs.Numbered.{numbered}
+use Rattle.comp_cycles.specs.NumberedHeaps.{numbered}
 use Rattle.comp_cycles.specs.Stable.{StableHeap, Step, Makes, Writes, Roots, Keeps, IsAmong, head_of, lived, stepped}
 use Rattle.reachability.specs.Reachable.{AreReachable}
 

@@ -9,7 +9,7 @@ ghost use Rattle.comp_history.specs.Setup.{Setup, pages};
 ghost use Rattle.comp_cycles.specs.Forwarded.{AreForwarded};
 ghost use Rattle.comp_cycles.specs.NextHeap.{next_faults, next_heap};
 ghost use Rattle.comp_cycles.specs.Cycles.{Cycle, Follow, AreApart, IsCycleOf, given_after, given_left, numbers_after, story};
-ghost use Rattle.comp_cycles.specs.Numbered.{first_numbers, first_numbered, names_in, number_at, IsNumberedAs};
+ghost use Rattle.comp_cycles.specs.NumberedHeaps.{first_numbers, first_numbered, names_in, number_at, IsNumberedAs};
 ghost use Rattle.comp_cycles.specs.Stable.{StableHeap};
 ghost use Rattle.reachability.specs.Reachable.{AreReachable, IsReachable};
 ghost use Rattle.reachable_cycles.specs.NextRoots.{Fits};

@@ -5,7 +5,7 @@ ghost use Rattle.heap_layout.specs.Heap.{IsStored};
 ghost use Rattle.comp_cycles.specs.Cycles.{given_after, heap_after, AreApart, IsChapter, IsCycleOf, numbers_after};
 ghost use Rattle.comp_cycles.specs.Ends.{cycle_of, cycle_with, setup_in, IsEndOf};
 ghost use Rattle.comp_cycles.specs.Finishes.{journals_of, roots_of};
-ghost use Rattle.comp_cycles.specs.Numbered.{IsNumberedAs};
+ghost use Rattle.comp_cycles.specs.NumberedHeaps.{IsNumberedAs};
 ghost use Rattle.comp_cycles.specs.Stable.{StableHeap};
 ghost use Rattle.reachable_cycles.specs.NextMarks.{IsFound};
 ghost use Rattle.reachable_cycles.specs.NextRoots.{IsRefusedNext, IsRefusedWith};

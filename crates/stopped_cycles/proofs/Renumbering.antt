@@ -13,7 +13,7 @@ use Rattle.heap_layout.proofs.Marked.{closed}
 use Rattle.page_plan.specs.Sliding.{live_words}
 use Rattle.page_plan.proofs.NewAddresses.{forward-none}
 use Rattle.page_plan.proofs.Objects.{live-at}
-use Rattle.comp_cycles.specs.Numbered.{Names, names_in, number_at, numbered_object, numbered_word, pointers_of, IsNumberedAs}
+use Rattle.comp_cycles.specs.NumberedHeaps.{Names, names_in, number_at, numbered_object, numbered_word, pointers_of, IsNumberedAs}
 use Rattle.comp_cycles.specs.Stable.{StableHeap}
 use Rattle.comp_cycles.proofs.Living.{number_is, number_immediate, numbered_reference, numbered_other}
 use Rattle.comp_cycles.proofs.Naming.{at_name, no_name}

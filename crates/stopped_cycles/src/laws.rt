@@ -1,7 +1,7 @@
 //! The law of a collection at rest in object numbers. It is the contract of a function that does nothing.
 ghost use Rattle.std.specs.Prelude.{ℕ, List};
 ghost use Rattle.heap_layout.specs.Heap.{Heap};
-ghost use Rattle.comp_cycles.specs.Numbered.{IsNumberedAs};
+ghost use Rattle.comp_cycles.specs.NumberedHeaps.{IsNumberedAs};
 ghost use Rattle.comp_cycles.specs.Stable.{StableHeap};
 ghost use Rattle.stopped_heap.specs.Reached.{IsSound};
 ghost use Rattle.stopped_heap.specs.Settled.{collected};

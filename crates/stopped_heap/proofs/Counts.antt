@@ -3,7 +3,7 @@ use Rattle.std.proofs.Common.{◌≡◌, ℕ, zero, suc, ◌+◌, ◌-◌, ◌*�
 use Rattle.std.proofs.lemmas.Bool.{cases_lt}
 use Rattle.std.proofs.lemmas.List.{get_or_append_left, get_or-append_right}
 use Rattle.heap_layout.specs.Bits.{bit}
-use Rattle.mark_tables.specs.Bits.{passing, set_bits, AreOffsets}
+use Rattle.mark_tables.specs.MarkBitmap.{passing, set_bits, AreOffsets}
 use Rattle.mark_tables.specs.LiveWords.{live_below}
 use Rattle.mark_tables.proofs.Counting.{passing-block}
 use Rattle.mark_tables.proofs.Passing.{passing-below, passing-few}

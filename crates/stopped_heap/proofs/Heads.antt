@@ -11,7 +11,7 @@ use Rattle.heap_layout.specs.Header.{size_of}
 use Rattle.heap_layout.specs.Heap.{Heap, header_at, live, is_target}
 use Rattle.heap_layout.proofs.MarkBits.{leads-targets}
 use Rattle.stopped_heap.specs.Reached.{IsSound}
-use Rattle.mark_tables.specs.Bits.{set_bits}
+use Rattle.mark_tables.specs.MarkBitmap.{set_bits}
 use Rattle.mark_tables.specs.LiveWords.{live_below}
 use Rattle.page_plan.specs.Sliding.{live_words}
 use Rattle.page_plan.proofs.Marks.{length-live}

@@ -5,7 +5,7 @@ use Rattle.std.proofs.lemmas.List.{take_all}
 use Rattle.std.proofs.lemmas.List.Sums.{sum_by-cons}
 use Rattle.heap_layout.specs.Heap.{Heap, live}
 use Rattle.page_plan.specs.Sliding.{live_words}
-use Rattle.stopped_heap.specs.Parts.{joined_parts}
+use Rattle.stopped_heap.specs.SlideParts.{joined_parts}
 use Rattle.stopped_heap.specs.Reached.{IsSound}
 use Rattle.stopped_heap.specs.Settled.{settled_words, collected}
 use Rattle.stopped_heap.proofs.Settling.{settled-all}

@@ -6,7 +6,7 @@ use Rattle.heap_layout.specs.declared.edition.Edition.{Edition}
 use Rattle.heap_layout.specs.Bits.{bit}
 use Rattle.heap_layout.specs.Heap.{live}
 use Rattle.heap_layout.specs.Limits.{most_words, most_roots}
-use Rattle.mark_tables.specs.Bits.{set_bits}
+use Rattle.mark_tables.specs.MarkBitmap.{set_bits}
 use Rattle.mark_tables.specs.LiveWords.{live_indices}
 use Rattle.reachability.proofs.Rising.{contains-had}
 use Rattle.stopped_heap.specs.Reached.{AreReached, IsSound}

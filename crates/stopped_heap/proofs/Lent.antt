@@ -12,7 +12,7 @@ use Rattle.stopped_heap.specs.Marks.{AllKept, IsKept}
 use Rattle.stopped_heap.specs.Meeting.{AreApart}
 use Rattle.stopped_heap.specs.Reached.{is_within, IsWordOf, IsSound}
 use Rattle.stopped_heap.specs.Surveys.{marks_of, told}
-use Rattle.mark_tables.specs.Bits.{set_bits}
+use Rattle.mark_tables.specs.MarkBitmap.{set_bits}
 use Rattle.mark_tables.specs.LiveWords.{live_indices}
 use Rattle.stopped_heap.proofs.Heads.{head-number, heads-lead, mark-set}
 use Rattle.stopped_heap.proofs.Spans.{all-runs}

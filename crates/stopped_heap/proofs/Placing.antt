@@ -10,7 +10,7 @@ use Rattle.heap_layout.specs.Bits.{bit, leads}
 use Rattle.heap_layout.specs.Header.{size_of}
 use Rattle.heap_layout.specs.Heap.{Heap, Object, header_at, object_at, live, is_target, is_value}
 use Rattle.heap_layout.specs.Values.{is_immediate, or_immediate}
-use Rattle.mark_tables.specs.Bits.{set_bits}
+use Rattle.mark_tables.specs.MarkBitmap.{set_bits}
 use Rattle.mark_tables.specs.LiveWords.{indices_of, live_indices, live_below}
 use Rattle.page_plan.specs.Sliding.{size, live_words}
 use Rattle.page_plan.proofs.Marks.{length-live}

@@ -6,7 +6,7 @@ use Rattle.std.proofs.lemmas.Bool.{cases_lt, cases_order, cases_eq, both_ways, a
 use Rattle.std.proofs.lemmas.Nat.{shr-shr}
 use Rattle.std.proofs.lemmas.Nat.Bits.{bit_at-zero, bit_at_above, bit_at-trailing_zeros}
 use Rattle.heap_layout.specs.Bits.{bit}
-use Rattle.mark_tables.specs.Bits.{set_bits}
+use Rattle.mark_tables.specs.MarkBitmap.{set_bits}
 use Rattle.mark_tables.specs.LiveWords.{live_below}
 use Rattle.stopped_heap.proofs.Bounding.{bit-empty}
 

@@ -14,7 +14,7 @@ use Rattle.heap_layout.specs.Heap.{Heap, Object, header_at, object_at, live, fro
 use Rattle.heap_layout.specs.Values.{is_immediate}
 use Rattle.heap_layout.proofs.Values.{no-immediate, value-cases}
 use Rattle.stopped_heap.specs.Reached.{IsSound}
-use Rattle.mark_tables.specs.Bits.{set_bits}
+use Rattle.mark_tables.specs.MarkBitmap.{set_bits}
 use Rattle.mark_tables.specs.LiveWords.{live_below}
 use Rattle.page_plan.specs.Sliding.{size, live_words, forward, forward_value}
 use Rattle.page_plan.proofs.Marks.{has-address}

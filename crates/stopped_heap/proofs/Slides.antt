@@ -7,7 +7,7 @@ use Rattle.heap_layout.specs.Bits.{bit}
 use Rattle.heap_layout.specs.Header.{size_of}
 use Rattle.heap_layout.specs.Heap.{Heap, Object, header_at, object_at, live}
 use Rattle.stopped_heap.specs.Reached.{IsSound}
-use Rattle.mark_tables.specs.Bits.{set_bits}
+use Rattle.mark_tables.specs.MarkBitmap.{set_bits}
 use Rattle.mark_tables.specs.LiveWords.{live_below}
 use Rattle.page_plan.specs.Sliding.{live_words}
 use Rattle.page_plan.proofs.Objects.{live_words-next, live_words-all}

@@ -9,7 +9,7 @@ use Rattle.heap_layout.specs.Bits.{bit}
 use Rattle.heap_layout.specs.Header.{header_of, refs_of, weak_of, size_of}
 use Rattle.heap_layout.specs.Heap.{Heap, Object, header_at, object_at, live}
 use Rattle.heap_layout.specs.Values.{is_immediate}
-use Rattle.mark_tables.specs.Bits.{set_bits}
+use Rattle.mark_tables.specs.MarkBitmap.{set_bits}
 use Rattle.page_plan.specs.Sliding.{size, live_words}
 use Rattle.page_plan.proofs.Objects.{live_words-next}
 use Rattle.stopped_heap.specs.Looking.{led_to, kept_by}

@@ -10,7 +10,7 @@ use Rattle.heap_layout.specs.Bits.{bit}
 use Rattle.heap_layout.specs.Header.{size_of}
 use Rattle.heap_layout.specs.Heap.{Heap, Object, header_at, object_at, live}
 use Rattle.stopped_heap.specs.Reached.{IsSound}
-use Rattle.mark_tables.specs.Bits.{passing, set_bits}
+use Rattle.mark_tables.specs.MarkBitmap.{passing, set_bits}
 use Rattle.mark_tables.specs.LiveWords.{indices_of, live_indices}
 use Rattle.mark_tables.proofs.Passing.{passing-all, passing-gap}
 use Rattle.mark_tables.proofs.Runs.{edge}

@@ -20,7 +20,7 @@ use Rattle.reachability.proofs.Rising.{contains-had}
 use Rattle.stopped_heap.specs.Reached.{is_below, leads_within, is_within, IsWordOf, LeadInto, IsReachedFrom, by_root, by_reference, AreReached, IsSound}
 use Rattle.stopped_heap.specs.Meeting.{AllLead, IsDone, AreApart}
 use Rattle.stopped_heap.specs.Surveys.{marks_of, told}
-use Rattle.mark_tables.specs.Bits.{set_bits}
+use Rattle.mark_tables.specs.MarkBitmap.{set_bits}
 use Rattle.mark_tables.specs.LiveWords.{live_indices}
 use Rattle.stopped_heap.proofs.Bounding.{bit-inside}
 use Rattle.stopped_heap.proofs.Heads.{head-number, heads-lead, mark-set}

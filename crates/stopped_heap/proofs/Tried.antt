@@ -5,7 +5,7 @@ use Rattle.heap_layout.specs.declared.edition.Edition.{Edition}
 use Rattle.heap_layout.specs.Bits.{bit}
 use Rattle.heap_layout.specs.Header.{refs_of, size_of}
 use Rattle.heap_layout.specs.Heap.{Heap, header_at, object_at, live, is_value, IsPlaced, IsValue}
-use Rattle.mark_tables.specs.Bits.{set_bits}
+use Rattle.mark_tables.specs.MarkBitmap.{set_bits}
 use Rattle.mark_tables.specs.LiveWords.{live_below, live_indices}
 use Rattle.page_plan.specs.Sliding.{live_words}
 use Rattle.page_plan.proofs.Objects.{live_words-all}

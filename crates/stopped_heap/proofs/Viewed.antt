@@ -5,7 +5,7 @@ use Rattle.heap_layout.specs.declared.edition.Edition.{Edition}
 use Rattle.heap_layout.specs.Bits.{leads}
 use Rattle.heap_layout.specs.Heap.{Heap, live, is_value}
 use Rattle.heap_layout.specs.Values.{or_immediate}
-use Rattle.mark_tables.specs.Bits.{set_bits}
+use Rattle.mark_tables.specs.MarkBitmap.{set_bits}
 use Rattle.page_plan.specs.Sliding.{live_words}
 use Rattle.stopped_heap.specs.Looking.{kept_by}
 use Rattle.stopped_heap.specs.Settled.{settled_word}

@@ -5,7 +5,7 @@ pub mod Collecting
 pub mod Meeting
 pub mod Marks
 pub mod Looking
-pub mod Parts
+pub mod SlideParts
 pub mod Tables
 pub mod InPlace
 pub mod Places

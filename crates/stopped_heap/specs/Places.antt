@@ -4,7 +4,7 @@ use Rattle.heap_layout.specs.declared.edition.Edition.{Edition}
 use Rattle.heap_layout.specs.Header.{refs_of, size_of}
 use Rattle.heap_layout.specs.Heap.{Heap, Object, header_at, object_at, live, is_target, is_value, IsValue}
 use Rattle.heap_layout.specs.Values.{is_immediate}
-use Rattle.mark_tables.specs.Bits.{set_bits}
+use Rattle.mark_tables.specs.MarkBitmap.{set_bits}
 use Rattle.mark_tables.specs.LiveWords.{live_below, live_indices}
 use Rattle.stopped_heap.specs.Reached.{IsSound}
 use Rattle.stopped_heap.specs.Surveys.{marks_of, AreTables}

@@ -5,7 +5,7 @@ use Rattle.heap_layout.specs.declared.edition.Edition.{Edition}
 use Rattle.heap_layout.specs.Bits.{bit}
 use Rattle.heap_layout.specs.Heap.{Heap, live}
 use Rattle.stopped_heap.specs.Reached.{IsSound}
-use Rattle.mark_tables.specs.Bits.{set_bits, AreOffsets}
+use Rattle.mark_tables.specs.MarkBitmap.{set_bits, AreOffsets}
 use Rattle.mark_tables.specs.LiveWords.{live_indices}
 
 -- the indices of the bits that are set, rising

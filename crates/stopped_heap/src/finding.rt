@@ -1,7 +1,7 @@
 //! Finds live objects by the bits of their first words.
 ghost use Rattle.std.specs.Prelude.{◌≡◌, ◌-◌, ◌*◌, ◌<◌, ◌^◌, ◌≤◌, ◌+◌, ◌&&◌, ℕ, true, false, nat_le, length, slice_index};
 ghost use Rattle.heap_layout.specs.Bits.{bit};
-ghost use Rattle.mark_tables.specs.Bits.{set_bits, AreOffsets};
+ghost use Rattle.mark_tables.specs.MarkBitmap.{set_bits, AreOffsets};
 ghost use Rattle.mark_tables.specs.LiveWords.{live_below};
 
 use crate::forwarding::below;

@@ -16,8 +16,8 @@ use crate::tables::Tables;
 use heap_layout::Edition;
 use std::alloc::Global;
 
-// Slides what these tables have down to the beginning of the words, and makes the roots lead there. Answers the number of
-// live words.
+// Slides what these tables have down to the beginning of the words, and makes the roots lead there. Answers the number
+// of live words.
 fn slide_home(
     edition: Edition,
     heads: &[u64],

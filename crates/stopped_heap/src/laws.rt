@@ -8,7 +8,7 @@ ghost use Rattle.reachability.specs.Reachable.{AreReachable};
 ghost use Rattle.stopped_heap.specs.Collecting.{HasCollected, RefusesCollection};
 ghost use Rattle.stopped_heap.specs.InPlace.{HaveLeftTheSame};
 ghost use Rattle.stopped_heap.specs.Reached.{AreReached, IsReachedFrom, IsSound, IsFaultOf};
-ghost use Rattle.stopped_heap.specs.Parts.{joined_parts};
+ghost use Rattle.stopped_heap.specs.SlideParts.{joined_parts};
 ghost use Rattle.stopped_heap.specs.Places.{led_by, words_now, Found, IsFoundOf, IsSlideFault};
 ghost use Rattle.stopped_heap.specs.Settled.{collected, settled_word, settled_words, AreSlid};
 ghost use Rattle.stopped_heap.specs.declared.fault.CollectFault.{CollectFault};
@@ -56,9 +56,9 @@ pub fn reached_is_one()
 {}
 
 /// Of the same words and roots each collection leaves the same live words and roots, whatever memory it slides into. So
-/// `collect_in_place` leaves what `collect` leaves, and where that slides into a memory that held the words of the heap,
-/// the words behind the live ones are the same too. What the one collects the other refuses only if memory runs out;
-/// and `collect` always has room in a memory as long as the words.
+/// `collect_in_place` leaves what `collect` leaves, and where that slides into a memory that held the words of the
+/// heap, the words behind the live ones are the same too. What the one collects the other refuses only if memory runs
+/// out; and `collect` always has room in a memory as long as the words.
 pub fn collected_is_one()
     ensures same { (edition : Edition) (words roots : List ℕ) (count other : ℕ) (new_roots other_roots before other_before after other_after : List ℕ)
         → HasCollected edition words roots count new_roots before after → HasCollected edition words roots other other_roots other_before other_after

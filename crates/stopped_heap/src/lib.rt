@@ -7,9 +7,9 @@
 //! overlap, and looks at nothing else. This is mark and slide with one bit a live word, whose prefix sums say where
 //! each word goes.
 //!
-//! A survey allocates its tables, or takes `Tables` that were made before; then nothing is allocated, and memory does not
-//! run out. It borrows the words. `Survey::release` lets them go: `Places` keep what was found, and slide the objects out
-//! of words that may have changed since, or tell which object changed.
+//! A survey allocates its tables, or takes `Tables` that were made before; then nothing is allocated, and memory does
+//! not run out. It borrows the words. `Survey::release` lets them go: `Places` keep what was found, and slide the
+//! objects out of words that may have changed since, or tell which object changed.
 //!
 //! A root that is not handed in is lost. The addresses before and after a collection are numbers of one range, so one
 //! that was kept elsewhere, or is forwarded twice, may be that of another object. During a call no other thread may

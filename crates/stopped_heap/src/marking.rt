@@ -55,8 +55,8 @@ pub(crate) fn weak_words(
     &words[first..first + weak]
 }
 
-// Whether the object at index `ahead` ends within the words, or lies near index `i`. It has its turn later, and by then its
-// header has come from memory, while other objects are followed.
+// Whether the object at index `ahead` ends within the words, or lies near index `i`. It has its turn later, and by then
+// its header has come from memory, while other objects are followed.
 #[inline(always)]
 fn ends_within(edition: Edition, words: &[u64], i: usize, ahead: usize) -> bool
     requires { ahead < length words.now }

@@ -1,6 +1,6 @@
 //! The offset of each block of bits: how many bits are set before it.
 ghost use Rattle.std.specs.Prelude.{◌≡◌, ◌+◌, ◌^◌, ◌≤◌, length, vec_capacity, IfOk};
-ghost use Rattle.mark_tables.specs.Bits.{AreOffsets};
+ghost use Rattle.mark_tables.specs.MarkBitmap.{AreOffsets};
 
 use std::alloc::{AllocError, Global};
 

@@ -1,7 +1,7 @@
 //! What the roots reach, found by several threads. It is the breadth-first search of the plain marker, done by rounds:
-//! while many objects wait in the queue, each thread takes a run of them and looks up what their references lead to; and
-//! so it does with a run of the references of one object that has very many. The threads only read, and each answers a
-//! list. The caller then meets what they found, one list after the other. Else it follows an object alone.
+//! while many objects wait in the queue, each thread takes a run of them and looks up what their references lead to;
+//! and so it does with a run of the references of one object that has very many. The threads only read, and each
+//! answers a list. The caller then meets what they found, one list after the other. Else it follows an object alone.
 //!
 //! Nothing here shows that all was met. That, and that each object is sound, the threads ask afterwards of the objects
 //! that were met, in the order of their addresses. Then they set the bits of the objects' words.
@@ -123,8 +123,8 @@ fn led_by_threads<R: Threads + Sync>(
     thread::map_indices(rt, alloc, workers, &part)
 }
 
-// Follows the references of the object at index `i`, of which it has `refs`. If they are `many` or more, so many threads
-// look up runs of them. The answer is false if a thread gave up, or memory runs out.
+// Follows the references of the object at index `i`, of which it has `refs`. If they are `many` or more, so many
+// threads look up runs of them. The answer is false if a thread gave up, or memory runs out.
 fn follow<R: Threads + Sync>(
     alloc: Global,
     rt: &R,
@@ -190,9 +190,9 @@ fn follow_round<R: Threads + Sync>(
 }
 
 // Follows the references of the object at place `next` of the queue, in so many threads if they are very many; or those
-// of many objects from there on, in so many threads, if `wide` of them or more wait. The answer is the place behind what
-// was followed. None if a thread gave up, or an object is too long for the edition or ends past the words, or memory
-// runs out.
+// of many objects from there on, in so many threads, if `wide` of them or more wait. The answer is the place behind
+// what was followed. None if a thread gave up, or an object is too long for the edition or ends past the words, or
+// memory runs out.
 fn follow_some<R: Threads + Sync>(
     alloc: Global,
     rt: &R,

@@ -3,7 +3,7 @@ ghost use Rattle.std.specs.Prelude.{◌≡◌, ◌*◌, ◌<◌, ◌^◌, ◌≤
 ghost use Rattle.heap_layout.specs.Bits.{bit};
 ghost use Rattle.heap_layout.specs.Header.{refs_of, weak_of, size_of};
 ghost use Rattle.heap_layout.specs.Heap.{header_at, live, object_at};
-ghost use Rattle.mark_tables.specs.Bits.{set_bits};
+ghost use Rattle.mark_tables.specs.MarkBitmap.{set_bits};
 ghost use Rattle.stopped_heap.specs.Settled.{settled, settled_words};
 ghost use Rattle.stopped_heap.specs.Surveys.{told, AreTables};
 

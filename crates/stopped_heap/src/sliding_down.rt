@@ -3,7 +3,7 @@
 ghost use Rattle.std.specs.Prelude.{◌≡◌, ℕ, ◌+◌, ◌-◌, ◌*◌, ◌<◌, ◌^◌, ◌≤◌, ◌++◌, false, length, drop, slice_index};
 ghost use Rattle.heap_layout.specs.Heap.{live};
 ghost use Rattle.heap_layout.specs.Values.{is_immediate};
-ghost use Rattle.mark_tables.specs.Bits.{set_bits, AreOffsets};
+ghost use Rattle.mark_tables.specs.MarkBitmap.{set_bits, AreOffsets};
 ghost use Rattle.page_plan.specs.Sliding.{live_words};
 ghost use Rattle.stopped_heap.specs.Looking.{led_to, kept_by};
 ghost use Rattle.stopped_heap.specs.Settled.{settled_words};

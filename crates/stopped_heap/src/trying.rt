@@ -3,7 +3,7 @@ ghost use Rattle.std.specs.Prelude.{◌≡◌, ℕ, ◌*◌, ◌<◌, ◌^◌, �
 ghost use Rattle.heap_layout.specs.Bits.{bit};
 ghost use Rattle.heap_layout.specs.Header.{refs_of, weak_of, size_of};
 ghost use Rattle.heap_layout.specs.Heap.{header_at, is_value, object_at, IsPlaced, IsValue};
-ghost use Rattle.mark_tables.specs.Bits.{set_bits, AreOffsets};
+ghost use Rattle.mark_tables.specs.MarkBitmap.{set_bits, AreOffsets};
 ghost use Rattle.mark_tables.specs.LiveWords.{live_below};
 ghost use Rattle.stopped_heap.specs.Places.{found_in, led_by, led_words, words_now, AreTablesOf, IsAsFound, IsSlideFault};
 ghost use Rattle.stopped_heap.specs.Surveys.{marks_of};

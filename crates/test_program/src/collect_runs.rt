@@ -24,7 +24,8 @@ const NEXT_OF_MARKED: &str =
 const NEXT_OF_NEW: &str =
     "next --reachable --fresh 0 collect.tests.new collect.tests.trace collect.tests.again";
 
-/// Heaps that are rows of objects. What is left is what `mark`, `compact` and `next` make, but that `next` fills a page.
+/// Heaps that are rows of objects. What is left is what `mark`, `compact` and `next` make, but that `next` fills a
+/// page.
 pub const COLLECTED: &[Step] = &[
     Step::Write("collect.tests.img", Content::ThreeImage),
     Step::Prints(COLLECT, "live 4\n"),

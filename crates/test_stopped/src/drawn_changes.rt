@@ -141,8 +141,8 @@ impl PlainHeap {
     }
 }
 
-// Slides the words from `first` up to `end`, by what was found, into the middle of a memory: beside the part nothing may
-// be written.
+// Slides the words from `first` up to `end`, by what was found, into the middle of a memory: beside the part nothing
+// may be written.
 fn expect_now(
     rt: &impl Abort,
     alloc: Global,

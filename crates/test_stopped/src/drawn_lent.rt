@@ -41,8 +41,8 @@ fn collect_drawn(
     Ok(())
 }
 
-// Collects all heaps of an edition by the same tables. Where a run of the tests refuses one allocation, at most one heap
-// is cut off.
+// Collects all heaps of an edition by the same tables. Where a run of the tests refuses one allocation, at most one
+// heap is cut off.
 fn collect_all(rt: &impl Abort, alloc: Global, edition: Edition) -> Result<(), AllocError> {
     let mut tables = Tables::reserve(alloc, ROOM)?;
     let mut compared = 0u64;

@@ -1,5 +1,5 @@
-//! One heap that threads mark and survey a thousand times: 225 times for each number of threads up to four, and 25 times
-//! for each from five to eight, which wait for a processor.
+//! One heap that threads mark and survey a thousand times: 225 times for each number of threads up to four, and 25
+//! times for each from five to eight, which wait for a processor.
 use crate::expected::{expect_eq, expect_so};
 use heap_layout::{Edition, FROM_SPACE as F, Header};
 use reachability::{reachable_marks, reachable_marks_by_threads};

@@ -1,4 +1,5 @@
-//! Heaps of which nearly all is reached: trees, graphs, tables, arrays and lists. Each has the root's object at index 0.
+//! Heaps of which nearly all is reached: trees, graphs, tables, arrays and lists. Each has the root's object at index
+//! 0.
 use crate::asked::{Asked, Shape};
 use crate::heaps::{Heap, drawn_below, put};
 use heap_layout::{FROM_SPACE, Header};

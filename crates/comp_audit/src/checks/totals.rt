@@ -4,7 +4,7 @@ ghost use Rattle.heap_layout.specs.Heap.{live};
 ghost use Rattle.page_plan.specs.Sliding.{live_words};
 ghost use Rattle.comp_journal.specs.declared.entry.Entry.{Entry};
 ghost use Rattle.comp_history.specs.Lists.{total as added};
-ghost use Rattle.comp_history.specs.Shares.{allocated, words_by};
+ghost use Rattle.comp_history.specs.MadeWords.{allocated, words_by};
 ghost use Rattle.comp_audit.specs.Checks.{all_entries, total_faults};
 ghost use Rattle.comp_dump.specs.Dumped.{HasFewEntries};
 ghost use Rattle.comp_audit.specs.Reported.{Reports};

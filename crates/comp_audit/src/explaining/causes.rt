@@ -7,7 +7,7 @@ ghost use Rattle.comp_dump.specs.Setup.{Setup};
 ghost use Rattle.page_plan.specs.Sliding as sliding;
 ghost use Rattle.heap_layout.specs.Heap.{live};
 ghost use Rattle.heap_layout.specs.declared.kind.Kind.TheVariants as sorts;
-ghost use Rattle.comp_audit.specs.Causes.{fits_after, leads_back, setup_of, HasNoCause, IsCauseOf, IsLate, IsMisfit};
+ghost use Rattle.comp_audit.specs.EntryCauses.{fits_after, leads_back, setup_of, HasNoCause, IsCauseOf, IsLate, IsMisfit};
 
 use crate::checks::is_word_of;
 use crate::explaining::made::{header_stamp, kind_made, words_made};

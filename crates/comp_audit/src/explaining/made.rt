@@ -6,7 +6,7 @@ ghost use Rattle.comp_dump.specs.Lawful.{kinds_by, kinds_in, kinds_of_header};
 ghost use Rattle.comp_dump.specs.Merged.{with_page};
 ghost use Rattle.comp_audit.specs.Checks.{all_entries, makes};
 ghost use Rattle.comp_audit.specs.Noted.{is_below};
-ghost use Rattle.comp_audit.specs.Causes.{IsHeaderStamp};
+ghost use Rattle.comp_audit.specs.EntryCauses.{IsHeaderStamp};
 
 use crate::checks::journal_of;
 use comp_dump::Dump;

@@ -6,7 +6,7 @@ ghost use Rattle.comp_hand.specs.declared.hand.Hand.{Hand as AHand};
 ghost use Rattle.comp_crew.specs.Benches.{IsBench};
 ghost use Rattle.comp_crew.specs.Finishing.{IsEndBy, IsEnded, IsOfItsFlip, IsUnfinishedFor};
 ghost use Rattle.comp_crew.specs.Members.{setup_in};
-ghost use Rattle.comp_crew.specs.Orders.{HasAll, IsInOrder};
+ghost use Rattle.comp_crew.specs.HandOrders.{HasAll, IsInOrder};
 
 use crate::bench::Bench;
 use crate::crew::Crew;

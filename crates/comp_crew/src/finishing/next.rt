@@ -4,7 +4,7 @@ ghost use Rattle.heap_layout.specs.Heap.{IsStored};
 ghost use Rattle.comp_cycles.specs.Cycles.{given_after, heap_after, AreApart, IsChapter, IsCycleOf, numbers_after};
 ghost use Rattle.comp_cycles.specs.Ends.{checked_faults, cycle_with, next_sizes, setup_in, IsRefusedFor, IsRefusedWithin};
 ghost use Rattle.comp_cycles.specs.Finishes.{journals_of};
-ghost use Rattle.comp_cycles.specs.Numbered.{IsNumberedAs};
+ghost use Rattle.comp_cycles.specs.NumberedHeaps.{IsNumberedAs};
 ghost use Rattle.comp_cycles.specs.Stable.{StableHeap};
 ghost use Rattle.reachable_cycles.specs.NextRoots.{IsRefusedWith};
 ghost use Rattle.reachable_cycles.specs.StableReach.{AreMarkedReachable, KeepsExactly, written};
@@ -33,14 +33,14 @@ impl Ended {
         &self.finished
     }
 
-    /// Makes the heap with which the next cycle begins, as `next_cycle_with` of comp_cycles does. `marks` are the rising
-    /// indices of the words at which the marked objects start, and `roots` are its roots: to-space addresses of the end,
-    /// or null. After a refusal the end is handed back unchanged.
+    /// Makes the heap with which the next cycle begins, as `next_cycle_with` of comp_cycles does. `marks` are the
+    /// rising indices of the words at which the marked objects start, and `roots` are its roots: to-space addresses of
+    /// the end, or null. After a refusal the end is handed back unchanged.
     ///
     /// Refusals, in this order: `TooLarge`, also if there are more roots than the edition allows; mark by mark
-    /// `MarksNotRising`, then `MarkNotStart`; then `BadRoot(k)` for the first root that is neither null, nor an immediate
-    /// of the edition, nor the start of a marked object; then `UnmarkedTarget`. `OutOfMemory` may replace any other answer
-    /// but `TooLarge`.
+    /// `MarksNotRising`, then `MarkNotStart`; then `BadRoot(k)` for the first root that is neither null, nor an
+    /// immediate of the edition, nor the start of a marked object; then `UnmarkedTarget`. `OutOfMemory` may replace any
+    /// other answer but `TooLarge`.
     ///
     /// Requires what `finish` ensures.
     pub fn next_heap(
@@ -73,9 +73,9 @@ impl Ended {
         }
     }
 
-    /// The words with which the next cycle would begin: those of all pages, 64 each, where references and weak words are
-    /// addresses of from-space. A page that nobody built has those of the plan, or zeros if it is fresh. Err if out of
-    /// memory.
+    /// The words with which the next cycle would begin: those of all pages, 64 each, where references and weak words
+    /// are addresses of from-space. A page that nobody built has those of the plan, or zeros if it is fresh. Err if out
+    /// of memory.
     ///
     /// Requires what `finish` ensures.
     pub fn rest_words(&self, alloc: Global) -> Result<Vec<u64>, OutOfMemory>

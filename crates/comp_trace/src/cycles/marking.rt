@@ -4,7 +4,7 @@ ghost use Rattle.heap_layout.specs.Faults.{IsAccepted};
 ghost use Rattle.heap_layout.specs.Heap.{IsStored};
 ghost use Rattle.comp_cycles.specs.Cycles.{heap_after, IsChapter, IsCycleOf};
 ghost use Rattle.comp_cycles.specs.Ends.{cycle_of, IsEndOf};
-ghost use Rattle.comp_cycles.specs.Numbered.{IsNumberedAs};
+ghost use Rattle.comp_cycles.specs.NumberedHeaps.{IsNumberedAs};
 ghost use Rattle.comp_cycles.specs.Stable.{StableHeap};
 ghost use Rattle.comp_trace.specs.Markings.{marks_given, IsMarkedBy, IsUnmarkable, KeepsReached};
 

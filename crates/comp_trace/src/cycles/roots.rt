@@ -1,7 +1,7 @@
 //! The words that roots name.
 ghost use Rattle.std.specs.Prelude.{◌≡◌, ℕ, All, IfOk, List, length, map};
 ghost use Rattle.comp_trace.specs.Replays.{Hold};
-ghost use Rattle.comp_trace.specs.Roots.{IsRootWithin};
+ghost use Rattle.comp_trace.specs.RootsText.{IsRootWithin};
 ghost use Rattle.comp_trace.specs.RootsNamed.{word_named};
 
 use crate::text::NewRoot;

@@ -2,7 +2,7 @@
 ghost use Rattle.std.specs.Prelude.{List};
 ghost use Rattle.comp_mutator.specs.Setup.{Setup};
 ghost use Rattle.comp_trace.specs.Bytes.{ShowOnce};
-ghost use Rattle.comp_trace.specs.Causes.{AreOfRuns};
+ghost use Rattle.comp_trace.specs.LineCauses.{AreOfRuns};
 ghost use Rattle.comp_trace.specs.Runs.{IsDetermined};
 ghost use Rattle.comp_trace.specs.declared.text.line.Line.{Line};
 

@@ -6,7 +6,7 @@ ghost use Rattle.comp_trace.specs.Acting.{null_registers, Fits};
 ghost use Rattle.comp_trace.specs.WrittenEntries.{HaveSeenAll, HaveStart};
 ghost use Rattle.comp_trace.specs.AllMutators.{AreAll};
 ghost use Rattle.comp_trace.specs.Replays.{CannotGoOn, GoesOn, HaveReplayed, HaveReplayedWith, HaveStopped, IsRefusal, RanNothing};
-ghost use Rattle.comp_trace.specs.Rounds.{AreLater, DidNothing};
+ghost use Rattle.comp_trace.specs.RoundsOfMeetings.{AreLater, DidNothing};
 ghost use Rattle.comp_trace.specs.TraceLines.{AllFit, IsParsedFor};
 ghost use Rattle.comp_trace.specs.Traces.{lines_of};
 

@@ -4,7 +4,7 @@ ghost use Rattle.heap_layout.specs.Kinds.{refers};
 ghost use Rattle.heap_layout.specs.Heap.{live};
 ghost use Rattle.comp_mutator.specs.Sliding.{forward_value};
 ghost use Rattle.comp_mutator.specs.Mutators.{setup_of};
-ghost use Rattle.comp_trace.specs.Builds.{kind_if};
+ghost use Rattle.comp_trace.specs.LineBuilds.{kind_if};
 ghost use Rattle.comp_trace.specs.Immediates.{HasNoImmediate, IsImmediateWith};
 
 use comp_mutator::{Builder, Refusal, Space};

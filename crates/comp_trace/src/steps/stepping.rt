@@ -3,10 +3,10 @@ ghost use Rattle.std.specs.Prelude.{◌≡◌, ◌≢◌, ◌<◌, ℕ, length, 
 ghost use Rattle.comp_mutator.specs.Mutators.{setup_of, AreMutatorsOf};
 ghost use Rattle.comp_mutator.specs.Refusal.TheVariants.{Busy};
 ghost use Rattle.comp_trace.specs.Acting.{registers_after, Fits};
-ghost use Rattle.comp_trace.specs.Builds.{touched, BuildOn, SeeBuiltOn};
+ghost use Rattle.comp_trace.specs.LineBuilds.{touched, BuildOn, SeeBuiltOn};
 ghost use Rattle.comp_trace.specs.WrittenEntries.{HaveSeenAll, HaveStart};
 ghost use Rattle.comp_trace.specs.AllMutators.{AreAll};
-ghost use Rattle.comp_trace.specs.Rounds.{AreLater, DidNothing, HasMetAll, HaveMet, RanLine, WasTurnedDown};
+ghost use Rattle.comp_trace.specs.RoundsOfMeetings.{AreLater, DidNothing, HasMetAll, HaveMet, RanLine, WasTurnedDown};
 
 use crate::steps::acting::act;
 use crate::text::Action;

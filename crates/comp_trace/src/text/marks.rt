@@ -1,7 +1,7 @@
 //! Reads the texts of marks.
 ghost use Rattle.std.specs.Prelude.{◌≡◌, ℕ, List, Ok, IfErr, IfNone, IfOk, IfSome};
 ghost use Rattle.comp_trace.specs.declared.text.marks.MarksFault.TheVariants as faults;
-ghost use Rattle.comp_trace.specs.Marks.{marks_of, MarkBefore, RefusesMarks};
+ghost use Rattle.comp_trace.specs.MarksText.{marks_of, MarkBefore, RefusesMarks};
 
 use crate::text::numbers::{below, number_before};
 use std::alloc::{AllocFailed, Global};

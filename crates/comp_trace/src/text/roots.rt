@@ -2,7 +2,7 @@
 ghost use Rattle.std.specs.Prelude.{◌≡◌, ℕ, All, List, [], ◌∷◌, Ok, IfErr, IfNone, IfOk, IfSome};
 ghost use Rattle.comp_trace.specs.declared.text.roots.RootsFault.TheVariants as faults;
 ghost use Rattle.comp_trace.specs.Fronts.{size};
-ghost use Rattle.comp_trace.specs.Roots.{new_roots_of, root_named, IsRootWithin, RefusesRoots, RootBefore};
+ghost use Rattle.comp_trace.specs.RootsText.{new_roots_of, root_named, IsRootWithin, RefusesRoots, RootBefore};
 
 use crate::text::numbers::{Number, below, one_number, two_numbers};
 use std::alloc::{AllocFailed, Global};

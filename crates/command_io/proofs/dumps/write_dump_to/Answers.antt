@@ -3,7 +3,7 @@ use Rattle.std.proofs.lemmas.Result.{err_from_is_err_and}
 use Rattle.heap_layout.specs.Counted.{failures_of}
 use Rattle.comp_dump.specs.DumpEncoding.{dump_bytes}
 use Rattle.command_io.specs.Dumps.{IsOfDumping}
-use Rattle.command_io.specs.Keeping.{IsOfKeeping}
+use Rattle.command_io.specs.KeptFiles.{IsOfKeeping}
 use Rattle.command_io.specs.declared.refusal.Output.TheVariants as outputs
 use Rattle.command_io.proofs.Written.{beginning, created, one_of_dump, uncreated_kept, unflushed_all, whole}
 use Rattle.command_io.proofs.dumps.write_dump_to.Goals as goal

@@ -1,6 +1,6 @@
 use Rattle.std.proofs.lemmas.Result.{err_from_is_err_and}
 use Rattle.command_io.specs.Images.{RefusesAt}
-use Rattle.command_io.specs.ImageParts.{RefusesImageParts}
+use Rattle.command_io.specs.PartsAtPath.{RefusesImageParts}
 use Rattle.command_io.specs.declared.refusal.Input.TheVariants.{Image}
 use Rattle.command_io.proofs.Opened.{opened}
 use Rattle.command_io.proofs.images.parts_at.Goals as goal

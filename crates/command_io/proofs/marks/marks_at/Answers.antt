@@ -1,5 +1,5 @@
 use Rattle.std.proofs.lemmas.Result.{err_from_is_err_and}
-use Rattle.command_io.specs.Marks.{RefusesMarksAt}
+use Rattle.command_io.specs.MarksAtPath.{RefusesMarksAt}
 use Rattle.command_io.specs.declared.refusal.Input.TheVariants.{Marks}
 use Rattle.command_io.proofs.Opened.{opened}
 use Rattle.command_io.proofs.marks.marks_at.Goals as goal

@@ -1,7 +1,7 @@
 use Rattle.std.proofs.Common.{refl, subst}
 use Rattle.std.proofs.lemmas.Result.{err_from_is_err_and}
 use Rattle.heap_layout.specs.Counted.{failures_of}
-use Rattle.command_io.specs.Keeping.{IsOfKeeping}
+use Rattle.command_io.specs.KeptFiles.{IsOfKeeping}
 use Rattle.command_io.specs.Pictures.{IsOfDrawing}
 use Rattle.command_io.specs.declared.refusal.Output.TheVariants as outputs
 use Rattle.command_io.proofs.Written.{beginning, created, one_of, uncreated_kept, unflushed_all, whole}

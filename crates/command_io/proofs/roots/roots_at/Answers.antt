@@ -1,5 +1,5 @@
 use Rattle.std.proofs.lemmas.Result.{err_from_is_err_and}
-use Rattle.command_io.specs.Roots.{RefusesRootsAt}
+use Rattle.command_io.specs.RootsAtPath.{RefusesRootsAt}
 use Rattle.command_io.specs.declared.refusal.Input.TheVariants.{Roots}
 use Rattle.command_io.proofs.Opened.{opened}
 use Rattle.command_io.proofs.roots.roots_at.Goals as goal

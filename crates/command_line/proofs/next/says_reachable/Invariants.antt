@@ -1,6 +1,6 @@
 use Rattle.std.proofs.Common.{◌≡◌, drop, map}
 use Rattle.std.specs.String.{string_bytes}
-use Rattle.command_line.specs.Nexts.{says_reachable}
+use Rattle.command_line.specs.NextArguments.{says_reachable}
 use Rattle.command_line.proofs.next.says_reachable.Given as goal
 
 -- the words before the loop's index say nothing

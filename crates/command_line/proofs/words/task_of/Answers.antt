@@ -7,8 +7,8 @@ use Rattle.clap.specs.declared.parser.matches.Found.{Found}
 use Rattle.command_line.specs.Parser.{program}
 use Rattle.command_line.specs.Forms.{Form, audit_form, collect_form, compact_form, map_form, mark_form, moved_form, next_form, plan_form, race_form, replay_form, standing, text, word_form}
 use Rattle.command_line.specs.Maps.{map_of}
-use Rattle.command_line.specs.Nexts.{next_of}
-use Rattle.command_line.specs.Runs.{audit_of, run_of}
+use Rattle.command_line.specs.NextArguments.{next_of}
+use Rattle.command_line.specs.RunArguments.{audit_of, run_of}
 use Rattle.command_line.proofs.TopLevel.{IsCommand, standing_audit, standing_collect, standing_compact, standing_map, standing_mark, standing_moved, standing_next, standing_plan, standing_program, standing_race, standing_replay, standing_word}
 use Rattle.command_line.proofs.Found.{CommandAsked, argument_there, bounded_number, collect_asked, collectors_fit, collectors_within, command_asked, compact_asked, entered_as, index_there, mark_asked, markers_fit, markers_within, none_entered, none_of_standing, plan_asked, run_asked, run_found, same_name, texts_utf8, word_asked, workers_fit, workers_within}
 use Rattle.command_line.proofs.AuditFound.{audit_asked, audit_found}

@@ -1,5 +1,5 @@
 use Rattle.std.proofs.Common.{subst}
-use Rattle.command_line.specs.Runs.{audit_of}
+use Rattle.command_line.specs.RunArguments.{audit_of}
 use Rattle.commands.specs.Audits.{IsDumpAt}
 use Rattle.commands.proofs.audit.audited_at.Goals as goal
 

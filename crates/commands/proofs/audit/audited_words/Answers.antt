@@ -1,5 +1,5 @@
 use Rattle.std.proofs.Common.{subst}
-use Rattle.command_line.specs.Runs.{audit_of}
+use Rattle.command_line.specs.RunArguments.{audit_of}
 use Rattle.comp_audit.specs.Judged.{Judges}
 use Rattle.comp_audit.specs.declared.verdict.Verdict.{Verdict}
 use Rattle.comp_audit.specs.declared.verdict.Verdict.TheVariants.{No}

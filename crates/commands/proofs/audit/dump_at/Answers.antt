@@ -4,7 +4,7 @@ use Rattle.heap_layout.specs.Counted.{inner_of}
 use Rattle.command_io.specs.declared.refusal.Input.TheVariants as inputs
 use Rattle.command_io.proofs.Ended.{of_file}
 use Rattle.command_io.proofs.Opened.{opened}
-use Rattle.command_line.specs.Runs.{audit_of}
+use Rattle.command_line.specs.RunArguments.{audit_of}
 use Rattle.commands.specs.Audits.{IsDumpIn, RefusesDumpAt}
 use Rattle.commands.proofs.audit.dump_at.Goals as goal
 

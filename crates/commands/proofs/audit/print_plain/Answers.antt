@@ -1,4 +1,4 @@
-use Rattle.command_line.specs.Runs.{audit_of}
+use Rattle.command_line.specs.RunArguments.{audit_of}
 use Rattle.commands.proofs.Audited.{printed_audit, unprinted_audit}
 use Rattle.commands.proofs.ComparedAudits.{plain_left}
 use Rattle.commands.specs.Audits.{LeavesUnexplained}

@@ -2,7 +2,7 @@ use Rattle.std.proofs.Common.{inl, inr}
 use Rattle.std.proofs.lemmas.Result.{err_from_is_err_and, IfErr-weaker, IfOk-weaker}
 use Rattle.heap_layout.specs.ImageParts.{heap_in}
 use Rattle.command_io.proofs.Imaged.{at_parts}
-use Rattle.commands.specs.Collecting.{IsCollectedHeap, IsUncollectable}
+use Rattle.commands.specs.CollectTask.{IsCollectedHeap, IsUncollectable}
 use Rattle.commands.proofs.FilesLeft.{still, uncollected_unnamed}
 use Rattle.commands.proofs.collect.collected_heap.Goals as goal
 

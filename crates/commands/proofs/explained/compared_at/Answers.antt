@@ -1,5 +1,5 @@
 use Rattle.std.proofs.Common.{◌≡◌}
-use Rattle.command_line.specs.Runs.{audit_of}
+use Rattle.command_line.specs.RunArguments.{audit_of}
 use Rattle.commands.proofs.ComparedAudits.{of_compared}
 use Rattle.command_io.specs.declared.refusal.CommandRefusal.TheVariants.{OutOfMemory}
 use Rattle.commands.proofs.FilesLeft.{memory_unnamed, still}

@@ -1,5 +1,5 @@
 use Rattle.heap_layout.specs.Counted.{inner_of}
-use Rattle.command_line.specs.Runs.{audit_of}
+use Rattle.command_line.specs.RunArguments.{audit_of}
 use Rattle.commands.specs.Audits.{RefusesCompared}
 use Rattle.commands.proofs.ComparedAudits.{compared_cause, compared_left, compared_passed}
 use Rattle.commands.proofs.FilesLeft.{none_named, still}

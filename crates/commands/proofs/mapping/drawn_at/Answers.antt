@@ -2,7 +2,7 @@ use Rattle.std.proofs.Common.{◌≡◌, ap, subst}
 use Rattle.std.specs.Prelude.{option_map}
 use Rattle.std.proofs.lemmas.Result.{IfErr-weaker, IfOk-weaker}
 use Rattle.command_line.specs.Maps.{map_of}
-use Rattle.command_line.specs.Runs as runs
+use Rattle.command_line.specs.RunArguments as runs
 use Rattle.commands.specs.Audits.{FailsCompared, SomeAudit}
 use Rattle.commands.proofs.MapRuns.{fails_dumped, some_alone, some_dumped}
 use Rattle.commands.proofs.mapping.drawn_at.Goals as goal

@@ -1,6 +1,6 @@
 use Rattle.std.proofs.Common.{◌≡◌, sym}
 use Rattle.std.proofs.lemmas.Result.{IfOk-weaker}
-use Rattle.command_line.specs.Runs.{audit_of}
+use Rattle.command_line.specs.RunArguments.{audit_of}
 use Rattle.command_io.specs.declared.refusal.CommandRefusal.TheVariants.{OutOfMemory}
 use Rattle.commands.proofs.Audited.{of_both}
 use Rattle.commands.proofs.FilesLeft.{memory_unnamed, still}

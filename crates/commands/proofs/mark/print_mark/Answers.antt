@@ -6,7 +6,7 @@ use Rattle.command_io.specs.Disk.{RefusedUnmade, WritesWhole}
 use Rattle.command_io.specs.declared.refusal.Output.TheVariants as outputs
 use Rattle.command_io.proofs.Outcomes.{unmade}
 use Rattle.commands.specs.Compact.{live_line}
-use Rattle.commands.specs.Nexts.{IsOfWritingNext}
+use Rattle.commands.specs.NextTask.{IsOfWritingNext}
 use Rattle.commands.proofs.MarkRuns.{made_mark, refused_mark, uncounted_marking}
 use Rattle.commands.proofs.Leavings.{untouched}
 use Rattle.commands.proofs.mark.print_mark.Goals as goal

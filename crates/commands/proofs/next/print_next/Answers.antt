@@ -5,7 +5,7 @@ use Rattle.comp_trace.specs.Traces.{lines_of}
 use Rattle.command_io.specs.Disk.{LeavesCounted, RefusedUnmade}
 use Rattle.command_io.proofs.Outcomes.{unmade}
 use Rattle.commands.proofs.ReplayRuns.{inputs_uncounted}
-use Rattle.commands.specs.Nexts.{IsGivenAt, IsWrittenNext, MakesNext, Nexts, RefusesGivenAt, RefusesNext, RefusesWriting}
+use Rattle.commands.specs.NextTask.{IsGivenAt, IsWrittenNext, MakesNext, Nexts, RefusesGivenAt, RefusesNext, RefusesWriting}
 use Rattle.commands.specs.Cycled.{given_by, refusal_by, shown_by}
 use Rattle.commands.proofs.CycledHeaps.{halted_cycle}
 use Rattle.commands.proofs.HeapFaults.{cycle_unnamed}

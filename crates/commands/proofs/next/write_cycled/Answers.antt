@@ -8,7 +8,7 @@ use Rattle.page_plan.specs.Sliding.{live_words}
 use Rattle.comp_mutator.proofs.Answering.{ok_anyway}
 use Rattle.command_io.proofs.Outcomes.{uncounted_image, unmade_by, unmade_line}
 use Rattle.comp_trace.specs.declared.steps.shown.Shown.{Shown}
-use Rattle.commands.specs.Replays.{run_lines, PrintsRun}
+use Rattle.commands.specs.ReplayTask.{run_lines, PrintsRun}
 use Rattle.commands.proofs.NextRuns.{unprinted_next, writing_image}
 use Rattle.commands.proofs.Leavings.{untouched_run, left_stopped}
 use Rattle.commands.proofs.next.write_cycled.Goals as goal

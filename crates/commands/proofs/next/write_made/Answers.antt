@@ -4,7 +4,7 @@ use Rattle.command_io.specs.Disk.{names_failure}
 use Rattle.commands.proofs.FilesLeft.{halted_unmade}
 use Rattle.commands.proofs.ReplayRuns.{halted_unwritten, ok_both}
 use Rattle.commands.specs.Cycled.{refusal_by}
-use Rattle.commands.specs.Nexts.{IsWrittenNext, RefusesWriting}
+use Rattle.commands.specs.NextTask.{IsWrittenNext, RefusesWriting}
 use Rattle.commands.specs.declared.cycling.Cycled.{Cycled}
 use Rattle.commands.specs.declared.cycling.Uncycled.{Uncycled}
 use Rattle.commands.proofs.next.write_made.Goals as goal

@@ -6,7 +6,7 @@ use Rattle.comp_trace.specs.Traces.{lines_of}
 use Rattle.command_io.specs.Disk.{RefusedUnmade}
 use Rattle.command_io.proofs.Outcomes.{unmade}
 use Rattle.commands.specs.Outcomes.{printed_of, refusal_of, IsWritten, RefusesOutcome}
-use Rattle.commands.specs.Races.{racing}
+use Rattle.commands.specs.RaceTask.{racing}
 use Rattle.commands.proofs.RaceRuns.{of_outcome_err, of_outcome_ok, race_halted_by}
 use Rattle.commands.proofs.ReplayRuns.{inputs_uncounted}
 use Rattle.commands.proofs.TraceRuns.{of_inputs}

@@ -11,7 +11,7 @@ use Rattle.command_io.specs.Dumps.{IsOfDumping}
 use Rattle.command_io.specs.declared.refusal.Output.TheVariants as outputs
 use Rattle.command_io.proofs.Outcomes.{uncounted_dump, unmade_dump, unmade_line}
 use Rattle.comp_trace.specs.declared.steps.shown.Shown.{Shown}
-use Rattle.commands.specs.Replays.{run_lines, PrintsRun}
+use Rattle.commands.specs.ReplayTask.{run_lines, PrintsRun}
 use Rattle.commands.proofs.ReplayRuns.{dumped_same, unprinted_run, writing_of}
 use Rattle.commands.proofs.Leavings.{untouched_run, left_stopped}
 use Rattle.commands.proofs.replay.write_run.Goals as goal

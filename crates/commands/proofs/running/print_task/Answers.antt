@@ -2,7 +2,7 @@ use Rattle.std.proofs.Common.{◌≡◌, rules, ℕ, List, IfErr, OnErr, OnOk, r
 use Rattle.heap_layout.specs.Counted.{inner_of}
 use Rattle.heap_layout.specs.Writing.{AppendsSome}
 use Rattle.command_line.specs.declared.words.Task.{Task}
-use Rattle.command_line.specs.Runs.{audit_of}
+use Rattle.command_line.specs.RunArguments.{audit_of}
 use Rattle.commands.specs.Audits.{RefusedUnexplained, RefusesAudit, LeavesUnexplained}
 use Rattle.commands.specs.Tasks.{DoesTask, LeavesFiles, RefusesTask}
 use Rattle.command_io.specs.Printing.{help_lines}
@@ -11,7 +11,7 @@ use Rattle.command_io.proofs.Outcomes.{unmade_line}
 use Rattle.commands.proofs.FilesLeft.{read_left, read_unmade}
 use Rattle.commands.proofs.Performed.{ok_by}
 use Rattle.commands.proofs.ComparedAudits.{both_err, left_unprinted}
-use Rattle.commands.specs.Replays.{StopsUnprinted}
+use Rattle.commands.specs.ReplayTask.{StopsUnprinted}
 use Rattle.commands.proofs.Leavings.{line_left, left_by, left_stopped}
 use Rattle.commands.proofs.running.print_task.Goals as goal
 

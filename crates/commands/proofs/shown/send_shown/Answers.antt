@@ -3,7 +3,7 @@ use Rattle.std.proofs.lemmas.Result.{err_from_is_err_and}
 use Rattle.heap_layout.specs.Counted.{inner_of}
 use Rattle.command_io.proofs.Begun.{begun_kept}
 use Rattle.command_io.proofs.Printings.{counted_then, printed_and_kept}
-use Rattle.commands.specs.Replays.{shown_lines}
+use Rattle.commands.specs.ReplayTask.{shown_lines}
 use Rattle.commands.proofs.Leavings.{line_left}
 use Rattle.commands.proofs.shown.send_shown.Goals as goal
 

@@ -1,5 +1,5 @@
 use Rattle.std.proofs.Common.{Option, inl, ap}
-use Rattle.comp_handle.specs.Kinds.{crew_in, mutator_in}
+use Rattle.comp_handle.specs.HandleKinds.{crew_in, mutator_in}
 use Rattle.comp_handle.specs.declared.kept.Kept.{Kept}
 use Rattle.comp_handle.proofs.Joined.{joined, kept_is}
 use Rattle.comp_handle.proofs.joining.give_member.Goals as goal

@@ -1,5 +1,5 @@
 use Rattle.std.proofs.Common.{Option, inl, ap}
-use Rattle.comp_handle.specs.Kinds.{mutator_in}
+use Rattle.comp_handle.specs.HandleKinds.{mutator_in}
 use Rattle.comp_handle.specs.declared.kept.Kept.{Kept}
 use Rattle.comp_handle.proofs.Joined.{brought, kept_is}
 use Rattle.comp_handle.proofs.joining.meet_members.Goals as goal

@@ -1,4 +1,4 @@
-use Rattle.comp_handle.specs.Kinds.{tables_in}
+use Rattle.comp_handle.specs.HandleKinds.{tables_in}
 use Rattle.comp_handle.specs.Lending.{IsUnlent, SurveysLent}
 use Rattle.comp_handle.proofs.Turned.{turned}
 use Rattle.comp_handle.proofs.lending.survey_lent.Goals as goal

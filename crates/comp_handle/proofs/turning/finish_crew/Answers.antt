@@ -1,4 +1,4 @@
-use Rattle.comp_handle.specs.Kinds.{crew_in}
+use Rattle.comp_handle.specs.HandleKinds.{crew_in}
 use Rattle.comp_handle.specs.Turning.{Finishes, IsUnfinished}
 use Rattle.comp_handle.proofs.Turned.{empty_of, turned}
 use Rattle.comp_handle.proofs.turning.finish_crew.Goals as goal

@@ -2,7 +2,7 @@ use Rattle.std.proofs.Common.{Some, sym, ap, ◌∙◌}
 use Rattle.comp_crew.specs.Finishes.{live_of}
 use Rattle.comp_crew.specs.declared.bench.Bench.{Bench}
 use Rattle.comp_handle.specs.Answers.{done}
-use Rattle.comp_handle.specs.Kinds.{crew_in}
+use Rattle.comp_handle.specs.HandleKinds.{crew_in}
 use Rattle.comp_handle.specs.Turning.{Finishes, IsUnfinished}
 use Rattle.comp_handle.specs.declared.kept.Kept.{Kept}
 use Rattle.comp_handle.specs.declared.kept.Kept.TheVariants as kept

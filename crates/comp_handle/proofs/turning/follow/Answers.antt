@@ -1,4 +1,4 @@
-use Rattle.comp_handle.specs.Kinds.{end_in}
+use Rattle.comp_handle.specs.HandleKinds.{end_in}
 use Rattle.comp_handle.specs.Turning.{Follows, IsUnfollowed}
 use Rattle.comp_handle.proofs.Turned.{empty_of, turned}
 use Rattle.comp_handle.proofs.turning.follow.Goals as goal

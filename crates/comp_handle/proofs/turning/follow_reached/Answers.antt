@@ -1,4 +1,4 @@
-use Rattle.comp_handle.specs.Kinds.{end_in}
+use Rattle.comp_handle.specs.HandleKinds.{end_in}
 use Rattle.comp_handle.specs.Turning.{FollowsReached, IsUnreached}
 use Rattle.comp_handle.proofs.Turned.{empty_of, turned}
 use Rattle.comp_handle.proofs.turning.follow_reached.Goals as goal

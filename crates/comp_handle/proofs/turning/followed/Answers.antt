@@ -1,5 +1,5 @@
 use Rattle.std.proofs.Common.{Some, sym, ap, ◌∙◌}
-use Rattle.comp_handle.specs.Kinds.{end_in}
+use Rattle.comp_handle.specs.HandleKinds.{end_in}
 use Rattle.comp_handle.specs.Turning.{Follows, IsUnfollowed}
 use Rattle.comp_handle.specs.declared.kept.Kept.{Kept}
 use Rattle.comp_handle.proofs.Turned.{answer_by, goes_by, kept_by, kept_either, kept_full, kept_other}

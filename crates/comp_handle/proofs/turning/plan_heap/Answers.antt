@@ -1,4 +1,4 @@
-use Rattle.comp_handle.specs.Kinds.{heap_in}
+use Rattle.comp_handle.specs.HandleKinds.{heap_in}
 use Rattle.comp_handle.specs.Turning.{Plans, IsUnplanned}
 use Rattle.comp_handle.proofs.Turned.{empty_of, turned}
 use Rattle.comp_handle.proofs.turning.plan_heap.Goals as goal

@@ -1,6 +1,6 @@
 use Rattle.std.proofs.Common.{Some, sym, ap, ◌∙◌}
 use Rattle.heap_layout.specs.Heap.{Heap}
-use Rattle.comp_handle.specs.Kinds.{heap_in, plan_in}
+use Rattle.comp_handle.specs.HandleKinds.{heap_in, plan_in}
 use Rattle.comp_handle.specs.Turning.{IsUnplanned, Plans}
 use Rattle.comp_handle.specs.declared.kept.Kept.{Kept}
 use Rattle.comp_handle.specs.declared.kept.Kept.TheVariants as kept

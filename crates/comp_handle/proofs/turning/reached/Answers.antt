@@ -2,7 +2,7 @@ use Rattle.std.proofs.Common.{Some, sym, ap, subst, ◌∙◌}
 use Rattle.heap_layout.specs.Faults.{IsAccepted}
 use Rattle.heap_layout.specs.Heap.{Heap}
 use Rattle.comp_crew.specs.declared.finishing.Ended.{Ended as End}
-use Rattle.comp_handle.specs.Kinds.{end_in}
+use Rattle.comp_handle.specs.HandleKinds.{end_in}
 use Rattle.comp_handle.specs.Turning.{FollowsReached, IsNextReached, IsUnreached}
 use Rattle.comp_handle.specs.declared.kept.Kept.{Kept}
 use Rattle.comp_handle.specs.declared.kept.Kept.TheVariants as kept

@@ -1,4 +1,4 @@
-use Rattle.comp_mutator.specs.Numbered.{first_numbers, first_numbered}
+use Rattle.comp_mutator.specs.NumberedHeaps.{first_numbers, first_numbered}
 use Rattle.embedding_example.proofs.cycles.followed.Goals as goal
 
 pub returns-in-Ok : goal.returns-in-Ok

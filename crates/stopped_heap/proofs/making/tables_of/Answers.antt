@@ -1,7 +1,7 @@
 use Rattle.std.proofs.Common.{◌≡◌, ℕ, List, length, drop, subst, ◌∙◌, arith}
 use Rattle.std.proofs.lemmas.Grind.{common_steps}
 use Rattle.std.proofs.lemmas.List.{take_at}
-use Rattle.mark_tables.specs.Bits.{AreOffsets}
+use Rattle.mark_tables.specs.MarkBitmap.{AreOffsets}
 use Rattle.stopped_heap.proofs.Surveying.{IsMarkedBy, are-reached, sound-of, told-sound, told-indices}
 use Rattle.stopped_heap.proofs.making.tables_of.Goals as goal
 

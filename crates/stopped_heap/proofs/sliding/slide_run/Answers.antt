@@ -3,7 +3,7 @@ use Rattle.std.proofs.lemmas.Bool.{cases_lt}
 use Rattle.heap_layout.specs.Header.{size_of}
 use Rattle.heap_layout.specs.Heap.{header_at}
 use Rattle.heap_layout.proofs.Bounds.{words_most}
-use Rattle.mark_tables.specs.Bits.{set_bits}
+use Rattle.mark_tables.specs.MarkBitmap.{set_bits}
 use Rattle.stopped_heap.proofs.Slides.{some-head, slid-first, next-known, next-start, next-placed, slid-next}
 use Rattle.stopped_heap.proofs.sliding.slide_run.Goals as goal
 

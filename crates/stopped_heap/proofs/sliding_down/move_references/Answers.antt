@@ -1,6 +1,6 @@
 use Rattle.std.proofs.Common.{◌≡◌, ℕ, ◌+◌, ◌-◌, ◌*◌, ◌^◌, ◌<◌, false, length, sym, subst, arith}
 use Rattle.heap_layout.specs.Values.{is_immediate}
-use Rattle.mark_tables.specs.Bits.{set_bits}
+use Rattle.mark_tables.specs.MarkBitmap.{set_bits}
 use Rattle.stopped_heap.specs.Looking.{led_to}
 use Rattle.stopped_heap.proofs.Moving.{moved-first, moved-next}
 use Rattle.stopped_heap.proofs.sliding_down.move_references.Goals as goal

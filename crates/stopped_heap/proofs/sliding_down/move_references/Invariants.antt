@@ -1,4 +1,4 @@
-use Rattle.mark_tables.specs.Bits.{set_bits}
+use Rattle.mark_tables.specs.MarkBitmap.{set_bits}
 use Rattle.stopped_heap.specs.Looking.{led_to}
 use Rattle.stopped_heap.proofs.Moving.{IsMoved}
 use Rattle.stopped_heap.proofs.sliding_down.move_references.Given as goal

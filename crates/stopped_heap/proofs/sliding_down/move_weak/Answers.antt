@@ -1,5 +1,5 @@
 use Rattle.std.proofs.Common.{arith}
-use Rattle.mark_tables.specs.Bits.{set_bits}
+use Rattle.mark_tables.specs.MarkBitmap.{set_bits}
 use Rattle.stopped_heap.specs.Looking.{kept_by}
 use Rattle.stopped_heap.proofs.Moving.{moved-first, moved-next}
 use Rattle.stopped_heap.proofs.sliding_down.move_weak.Goals as goal

@@ -2,7 +2,7 @@ use Rattle.std.proofs.Common.{◌≡◌, ◌<◌, length, arith}
 use Rattle.heap_layout.specs.Header.{refs_of, size_of}
 use Rattle.heap_layout.specs.Heap.{header_at}
 use Rattle.heap_layout.proofs.Bounds.{words_most}
-use Rattle.mark_tables.specs.Bits.{set_bits}
+use Rattle.mark_tables.specs.MarkBitmap.{set_bits}
 use Rattle.stopped_heap.proofs.Slides.{next-known}
 use Rattle.stopped_heap.proofs.SlidingDown.{IsDown, down-first, next-down, down-next, down-all}
 use Rattle.stopped_heap.proofs.sliding_down.slide_down_all.Goals as goal

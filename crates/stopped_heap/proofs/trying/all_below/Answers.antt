@@ -1,7 +1,7 @@
 use Rattle.std.proofs.Common.{◌≡◌, ◌*◌, length, ◌∙◌, arith}
 use Rattle.std.proofs.lemmas.List.{get_or_default}
 use Rattle.heap_layout.specs.Bits.{bit}
-use Rattle.mark_tables.specs.Bits.{passing}
+use Rattle.mark_tables.specs.MarkBitmap.{passing}
 use Rattle.stopped_heap.proofs.Counts.{counted-few}
 use Rattle.stopped_heap.proofs.trying.all_below.Goals as goal
 

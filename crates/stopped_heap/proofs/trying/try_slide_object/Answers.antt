@@ -3,7 +3,7 @@ use Rattle.std.proofs.lemmas.Bool.{cases_lt}
 use Rattle.heap_layout.specs.Header.{refs_of, weak_of}
 use Rattle.heap_layout.specs.Heap.{header_at, object_at, IsValue}
 use Rattle.heap_layout.specs.Values.{or_immediate}
-use Rattle.mark_tables.specs.Bits.{set_bits}
+use Rattle.mark_tables.specs.MarkBitmap.{set_bits}
 use Rattle.stopped_heap.specs.Places.{found_in, led_by, led_words}
 use Rattle.stopped_heap.specs.Surveys.{marks_of}
 use Rattle.stopped_heap.proofs.Filling.{filled-next, before-kept}

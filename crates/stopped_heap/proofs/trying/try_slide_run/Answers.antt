@@ -3,7 +3,7 @@ use Rattle.std.proofs.lemmas.Bool.{cases_lt}
 use Rattle.heap_layout.specs.Header.{size_of}
 use Rattle.heap_layout.specs.Heap.{header_at, object_at}
 use Rattle.heap_layout.proofs.Bounds.{words_most}
-use Rattle.mark_tables.specs.Bits.{set_bits}
+use Rattle.mark_tables.specs.MarkBitmap.{set_bits}
 use Rattle.stopped_heap.specs.Places.{led_by, led_words, words_now, Found, IsAsFound, IsSlideFault}
 use Rattle.stopped_heap.specs.declared.fault.SlideFault.TheVariants.{Changed, Unmarked}
 use Rattle.stopped_heap.proofs.Bounding.{bit-inside}

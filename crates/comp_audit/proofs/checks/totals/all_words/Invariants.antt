@@ -1,6 +1,6 @@
 use Rattle.std.proofs.Common.{◌≡◌, ◌*◌, ◌^◌, ◌≤◌}
 use Rattle.comp_history.specs.Merged.{entries_below}
-use Rattle.comp_history.specs.Shares.{allocated}
+use Rattle.comp_history.specs.MadeWords.{allocated}
 use Rattle.comp_audit.specs.Checks.{journals_in}
 use Rattle.comp_audit.proofs.checks.totals.all_words.Given as goal
 

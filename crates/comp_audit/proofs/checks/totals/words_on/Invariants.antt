@@ -1,7 +1,7 @@
 use Rattle.std.proofs.Common.{◌≡◌, ◌+◌, ◌*◌, ◌^◌, ◌≤◌, drop}
 use Rattle.comp_journal.specs.declared.entry.Entry.{Entry}
 use Rattle.comp_history.specs.Lists.{total}
-use Rattle.comp_history.specs.Shares.{words_by}
+use Rattle.comp_history.specs.MadeWords.{words_by}
 use Rattle.comp_audit.proofs.checks.totals.words_on.Given as goal
 
 abbrev pub invariant-loop-entry : goal.invariant-loop-entry

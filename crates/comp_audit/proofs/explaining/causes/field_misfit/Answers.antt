@@ -1,5 +1,5 @@
 use Rattle.std.proofs.Common.{◌∙◌, refl, sym}
-use Rattle.comp_audit.specs.Causes.{setup_of}
+use Rattle.comp_audit.specs.EntryCauses.{setup_of}
 use Rattle.comp_audit.proofs.Causes.{field_cause, fits_field}
 use Rattle.comp_audit.proofs.explaining.causes.field_misfit.Goals as goal
 

@@ -1,6 +1,6 @@
 use Rattle.comp_dump.specs.Merged.{entries_below}
 use Rattle.comp_audit.specs.Checks.{journals_in}
-use Rattle.comp_audit.specs.Causes.{IsHeaderStamp}
+use Rattle.comp_audit.specs.EntryCauses.{IsHeaderStamp}
 use Rattle.comp_audit.proofs.explaining.made.header_stamp.Given as goal
 
 -- the least stamp on the pages so far

@@ -2,7 +2,7 @@ use Rattle.std.proofs.Common.{◌∙◌, List, Option, ap, refl}
 use Rattle.comp_dump.specs.Dumped.{BuiltPage}
 use Rattle.comp_dump.specs.Entry.{Entry}
 use Rattle.comp_dump.specs.Lawful.{kind_at}
-use Rattle.comp_audit.specs.Causes.{setup_of}
+use Rattle.comp_audit.specs.EntryCauses.{setup_of}
 use Rattle.comp_audit.specs.Checks.{journals_in}
 use Rattle.comp_audit.proofs.explaining.words.kind_found.Goals as goal
 

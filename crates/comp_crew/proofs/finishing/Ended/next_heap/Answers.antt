@@ -2,7 +2,7 @@ use Rattle.std.proofs.Common.{ℕ, List, subst}
 use Rattle.heap_layout.specs.Heap.{Heap}
 use Rattle.comp_cycles.specs.Cycles.{IsChapter, IsCycleOf}
 use Rattle.comp_cycles.specs.Ends.{checked_faults, cycle_with, IsRefusedFor}
-use Rattle.comp_cycles.specs.Numbered.{IsNumberedAs}
+use Rattle.comp_cycles.specs.NumberedHeaps.{IsNumberedAs}
 use Rattle.comp_cycles.specs.Stable.{StableHeap}
 use Rattle.comp_crew.proofs.finishing.Ended.next_heap.Goals as goal
 

@@ -2,7 +2,7 @@ use Rattle.std.proofs.Common.{ℕ, List, subst}
 use Rattle.heap_layout.specs.Heap.{Heap}
 use Rattle.comp_cycles.specs.Cycles.{given_after, AreApart, IsChapter, numbers_after}
 use Rattle.comp_cycles.specs.Ends.{cycle_with}
-use Rattle.comp_cycles.specs.Numbered.{IsNumberedAs}
+use Rattle.comp_cycles.specs.NumberedHeaps.{IsNumberedAs}
 use Rattle.comp_cycles.specs.Stable.{StableHeap}
 use Rattle.reachable_cycles.specs.StableReach.{KeepsExactly, written}
 use Rattle.comp_crew.proofs.finishing.Ended.next_reached.Goals as goal

@@ -10,7 +10,7 @@ use Rattle.comp_hand.specs.Hands.{IsHandOf}
 use Rattle.comp_hand.specs.declared.hand.Hand.{Hand}
 use Rattle.comp_hand.proofs.HandRows.{all_at, passes_in_order, rest_all}
 use Rattle.comp_crew.specs.Members.{setup_in, steps_of}
-use Rattle.comp_crew.specs.Orders.{IsInOrder}
+use Rattle.comp_crew.specs.HandOrders.{IsInOrder}
 use Rattle.comp_crew.proofs.EndCounts.{end_moved, lists_shown}
 use Rattle.comp_crew.proofs.finishing.calls.close_all.Goals as goal
 

@@ -3,7 +3,7 @@ use Rattle.heap_layout.proofs.Ordered.{none_missing}
 use Rattle.comp_hand.specs.declared.hand.Hand.{Hand}
 use Rattle.comp_crew.specs.Benches.{setup_on}
 use Rattle.comp_crew.specs.Members.{setup_in}
-use Rattle.comp_crew.specs.Orders.{number_of_hand, IsLeastMissing}
+use Rattle.comp_crew.specs.HandOrders.{number_of_hand, IsLeastMissing}
 use Rattle.comp_crew.specs.declared.crew.Crew.{Crew}
 use Rattle.comp_crew.proofs.finishing.calls.finish.Goals as goal
 

@@ -4,7 +4,7 @@ use Rattle.comp_mutator.specs.Mutators.{setup_of}
 use Rattle.comp_mutator.specs.declared.mutator.Mutator.{Mutator}
 use Rattle.comp_trace.specs.WrittenEntries.{HaveStart}
 use Rattle.comp_trace.specs.AllMutators.{AreAll}
-use Rattle.comp_trace.specs.Rounds.{AreLater}
+use Rattle.comp_trace.specs.RoundsOfMeetings.{AreLater}
 use Rattle.comp_trace.specs.Replays.{HaveReplayedWith, HaveStopped, IsRefusal, RanNothing}
 use Rattle.comp_trace.specs.TraceLines.{AllFit}
 use Rattle.comp_trace.specs.declared.text.line.Line.{Line}

@@ -8,7 +8,7 @@ use Rattle.comp_mutator.proofs.Sums.{there_at}
 use Rattle.comp_mutator.specs.Mutators.{setup_of}
 use Rattle.comp_mutator.specs.Refusal.{Refusal}
 use Rattle.comp_trace.specs.Acting.{null_registers}
-use Rattle.comp_trace.specs.Builds.{is_built}
+use Rattle.comp_trace.specs.LineBuilds.{is_built}
 use Rattle.comp_trace.specs.WrittenEntries.{written_by_each}
 use Rattle.comp_trace.specs.Replays.{RanTo, HasReplayed}
 use Rattle.comp_trace.specs.Runs.{beginning}

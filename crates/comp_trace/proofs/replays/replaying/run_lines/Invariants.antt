@@ -1,11 +1,11 @@
 use Rattle.std.proofs.Common.{◌≡◌, ◌<◌, ◌≤◌, length, take, vec_capacity}
 use Rattle.comp_mutator.specs.Locks.{Journals}
 use Rattle.comp_mutator.specs.Mutators.{setup_of}
-use Rattle.comp_trace.specs.Builds.{HaveSeenBuilt}
+use Rattle.comp_trace.specs.LineBuilds.{HaveSeenBuilt}
 use Rattle.comp_trace.specs.WrittenEntries.{written_by_each, HaveAll, HaveSeenAll, HaveStart}
 use Rattle.comp_trace.specs.AllMutators.{AreAll}
 use Rattle.comp_trace.specs.Replays.{BuiltTo, RanNothing, HasReplayed}
-use Rattle.comp_trace.specs.Rounds.{AreLater, DidNothing}
+use Rattle.comp_trace.specs.RoundsOfMeetings.{AreLater, DidNothing}
 use Rattle.comp_trace.specs.Runs.{Moment}
 use Rattle.comp_trace.proofs.replays.replaying.run_lines.Given as goal
 

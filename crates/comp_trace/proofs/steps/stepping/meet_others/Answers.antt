@@ -1,5 +1,5 @@
 use Rattle.std.proofs.Common.{◌≡◌, ◌∙◌, ℕ, ◌<◌, ◌≤◌, ◌+◌, length, refl, subst, arith}
-use Rattle.comp_trace.specs.Rounds.{row}
+use Rattle.comp_trace.specs.RoundsOfMeetings.{row}
 use Rattle.comp_trace.proofs.MeetingRounds.{met_all, met_itself, met_none, MetBelow}
 use Rattle.comp_trace.proofs.MetPairs.{met_next}
 use Rattle.comp_trace.proofs.steps.stepping.meet_others.Goals as goal

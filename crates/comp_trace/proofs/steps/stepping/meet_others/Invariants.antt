@@ -1,7 +1,7 @@
 use Rattle.std.proofs.Common.{◌≡◌, length}
 use Rattle.comp_mutator.specs.Mutators.{AreMutatorsOf}
 use Rattle.comp_mutator.specs.declared.mutator.Mutator.{Mutator}
-use Rattle.comp_trace.specs.Rounds.{row}
+use Rattle.comp_trace.specs.RoundsOfMeetings.{row}
 use Rattle.comp_trace.proofs.MeetingRounds.{MetBelow}
 use Rattle.comp_trace.proofs.steps.stepping.meet_others.Given as goal
 

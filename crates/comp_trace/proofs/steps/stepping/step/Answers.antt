@@ -1,7 +1,7 @@
 use Rattle.std.proofs.Common.{get_or}
 use Rattle.std.proofs.lemmas.Result.{IfErr-at_err, IfOk-weaker, on_err_weaker}
 use Rattle.comp_mutator.specs.Mutators.{pass_of, setup_of, IsMutatorOf}
-use Rattle.comp_trace.specs.Rounds.{Learns}
+use Rattle.comp_trace.specs.RoundsOfMeetings.{Learns}
 use Rattle.comp_trace.proofs.MadeObjects.{learns_by}
 use Rattle.comp_trace.proofs.MetPairs.{each_set}
 use Rattle.comp_trace.proofs.StepLists.{all_last, builds_last, err_with, has_start, later_last, never_waits, nothing_done, ran_line, see_built_last, seen_last, was_turned_down}

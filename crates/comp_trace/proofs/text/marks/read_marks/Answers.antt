@@ -1,6 +1,6 @@
 use Rattle.std.proofs.Common.{List, ℕ, ◌+◌, ◌∙◌, ap, arith, rules, sym}
 use Rattle.comp_trace.specs.Grammar.{parts}
-use Rattle.comp_trace.specs.Marks.{marks_from}
+use Rattle.comp_trace.specs.MarksText.{marks_from}
 use Rattle.comp_trace.proofs.Marked.{behind, mark_less, one_more, one_refused}
 use Rattle.comp_trace.proofs.text.marks.read_marks.Goals as goal
 

@@ -1,6 +1,6 @@
 use Rattle.std.proofs.Common.{◌≡◌, length, ◌+◌, ◌≤◌}
 use Rattle.comp_trace.specs.Grammar.{parts}
-use Rattle.comp_trace.specs.Marks.{marks_from, marks_of}
+use Rattle.comp_trace.specs.MarksText.{marks_from, marks_of}
 use Rattle.comp_trace.proofs.Marked.{behind}
 use Rattle.comp_trace.proofs.text.marks.read_marks.Given as goal
 

@@ -1,7 +1,7 @@
 use Rattle.std.proofs.Common.{All, List, ◌+◌, ◌∙◌, ap, arith, rules, subst, sym}
 use Rattle.std.proofs.lemmas.List.Elements.{All-push}
 use Rattle.comp_trace.specs.Grammar.{parts}
-use Rattle.comp_trace.specs.Roots.{new_roots_from, IsRootWithin}
+use Rattle.comp_trace.specs.RootsText.{new_roots_from, IsRootWithin}
 use Rattle.comp_trace.specs.declared.text.roots.NewRoot.{NewRoot}
 use Rattle.comp_trace.proofs.Named.{behind, root_less, root_within, one_more, one_refused}
 use Rattle.comp_trace.proofs.text.roots.read_roots.Goals as goal

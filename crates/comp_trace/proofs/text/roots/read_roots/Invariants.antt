@@ -1,6 +1,6 @@
 use Rattle.std.proofs.Common.{◌≡◌, All, length, ◌+◌, ◌≤◌}
 use Rattle.comp_trace.specs.Grammar.{parts}
-use Rattle.comp_trace.specs.Roots.{new_roots_from, new_roots_of, IsRootWithin}
+use Rattle.comp_trace.specs.RootsText.{new_roots_from, new_roots_of, IsRootWithin}
 use Rattle.comp_trace.proofs.Named.{behind}
 use Rattle.comp_trace.proofs.text.roots.read_roots.Given as goal
 

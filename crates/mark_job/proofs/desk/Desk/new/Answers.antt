@@ -1,5 +1,5 @@
 use Rattle.std.proofs.Common.{subst, sym}
-use Rattle.mark_job.specs.Looking.{LeadIn}
+use Rattle.mark_job.specs.LeadingWords.{LeadIn}
 use Rattle.mark_job.proofs.Leading.{roots-lead}
 use Rattle.mark_job.proofs.desk.Desk.new.Goals as goal
 

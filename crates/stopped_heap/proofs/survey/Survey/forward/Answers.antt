@@ -3,7 +3,7 @@ use Rattle.std.specs.Option.{option_map}
 use Rattle.heap_layout.specs.Bits.{bit}
 use Rattle.heap_layout.specs.Heap.{Heap, live}
 use Rattle.heap_layout.specs.Values.{is_immediate}
-use Rattle.mark_tables.specs.Bits.{set_bits}
+use Rattle.mark_tables.specs.MarkBitmap.{set_bits}
 use Rattle.mark_tables.specs.LiveWords.{live_below}
 use Rattle.page_plan.specs.Sliding.{forward_value}
 use Rattle.reachability.specs.Queue.{is_address}

@@ -2,7 +2,7 @@ use Rattle.std.proofs.Common.{◌≡◌, ℕ, ◌≤◌, List, length, drop, sub
 use Rattle.std.proofs.lemmas.Grind.{common_steps}
 use Rattle.std.proofs.lemmas.List.{take_at}
 use Rattle.heap_layout.specs.Limits.{most_words, most_roots}
-use Rattle.mark_tables.specs.Bits.{AreOffsets}
+use Rattle.mark_tables.specs.MarkBitmap.{AreOffsets}
 use Rattle.stopped_heap.proofs.Lent.{lent-sound, told-sound, told-indices}
 use Rattle.stopped_heap.proofs.survey.Survey.of_marks.Goals as goal
 

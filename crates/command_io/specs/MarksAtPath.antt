@@ -1,6 +1,6 @@
 -- What is known of the marks at a path.
 use Rattle.std.specs.Prelude.{◌≡◌, ℕ, List, Option, Ok, Err}
-use Rattle.comp_trace.specs.Marks.{marks_of}
+use Rattle.comp_trace.specs.MarksText.{marks_of}
 use Rattle.command_io.specs.Disk.{Disk, SomeFile}
 use Rattle.command_io.specs.Texts.{SomeText}
 use Rattle.command_io.specs.declared.refusal.Input.TheVariants as inputs

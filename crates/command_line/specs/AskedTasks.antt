@@ -7,8 +7,8 @@ use Rattle.clap.specs.declared.error.kind.ErrorKind.TheVariants.{DisplayHelp, Di
 use Rattle.command_line.specs.Forms.{audit_form, collect_form, compact_form, mark_form, moved_form, plan_form, word_form, workers}
 use Rattle.command_line.specs.Given.{IsChosen, IsCommandWith, IsNumber, Use, is_among, text_given}
 use Rattle.command_line.specs.Maps.{AsksMap, Mapping, map_of}
-use Rattle.command_line.specs.Nexts.{AsksNext, IsLawfulNext, Next, next_of}
-use Rattle.command_line.specs.Runs.{AsksRun, Audit, IsLawfulRun, Run, audit_of, run_of}
+use Rattle.command_line.specs.NextArguments.{AsksNext, IsLawfulNext, Next, next_of}
+use Rattle.command_line.specs.RunArguments.{AsksRun, Audit, IsLawfulRun, Run, audit_of, run_of}
 use Rattle.command_line.specs.declared.words.Task.{Task}
 use Rattle.command_line.specs.declared.words.Task.TheVariants.{Plan, Word, Replay, Race, Compact, Mark, Collect, Moved, Help, Version}
 use Rattle.command_line.specs.declared.words.Task.TheVariants as tasks
@@ -70,8 +70,8 @@ pub record AsksMark (words : List (List ℕ)) (image new : List ℕ) (n : ℕ) (
   pub with_workers : IsChosen workers uses n
   pub with_large : is_large ≡ is_among (codes "large") uses
 
--- the words are `collect [--workers N] [--large] IMAGE NEW`, with these paths of an image and of the new image, and this
--- number of workers, and with the switch or without it
+-- the words are `collect [--workers N] [--large] IMAGE NEW`, with these paths of an image and of the new image, and
+-- this number of workers, and with the switch or without it
 pub record AsksCollect (words : List (List ℕ)) (image new : List ℕ) (n : ℕ) (is_large : Bool) : Type 0 where
   pub uses : List Use
   pub is_command : IsCommandWith collect_form words uses

@@ -8,14 +8,14 @@ use Rattle.stopped_heap.specs.Reached.{AreReached, IsFaultOf, IsSound}
 use Rattle.stopped_heap.specs.Settled.{collected}
 use Rattle.stopped_heap.specs.declared.fault.SurveyFault.TheVariants as surveys
 use Rattle.command_io.specs.Disk.{Disk, LeavesCounted, WritesWhole}
-use Rattle.command_io.specs.ImageParts.{RefusesImageParts, SomePartsAt}
+use Rattle.command_io.specs.PartsAtPath.{RefusesImageParts, SomePartsAt}
 use Rattle.command_io.specs.Images.{RefusesAt}
 use Rattle.command_io.specs.declared.refusal.Output.TheVariants as outputs
 use Rattle.command_io.specs.declared.refusal.CommandRefusal.{CommandRefusal}
 use Rattle.command_io.specs.declared.refusal.CommandRefusal.TheVariants.{Survey, OutOfMemory}
 use Rattle.commands.specs.Compact.{live_line, PrintsLive}
 use Rattle.commands.specs.Marking.{remarked, IsMarkedByRoots}
-use Rattle.commands.specs.Nexts.{IsOfWritingNext}
+use Rattle.commands.specs.NextTask.{IsOfWritingNext}
 
 -- The heap has the edition, the words and the roots of these parts, whatever their marks are. Exactly the objects are
 -- marked that its roots reach, and it is sound. Nothing is said of its other words.

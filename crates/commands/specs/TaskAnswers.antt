@@ -1,13 +1,13 @@
 -- What the words of the command line are answered.
 use Rattle.std.specs.Prelude.{◌≡◌, ◌⊎◌, ℕ, Bool, List, Option, Result, Ok, Err}
 use Rattle.std.specs.Io.KnownBytes.{Keeps}
-use Rattle.command_line.specs.Asked.{Asks, AsksNoCommand}
+use Rattle.command_line.specs.AskedTasks.{Asks, AsksNoCommand}
 use Rattle.command_line.specs.declared.words.Task.{Task}
 use Rattle.command_io.specs.Disk.{Disk, RefusedUnmade}
 use Rattle.command_io.specs.Printing.{CountsPrint, LeavesFlushed}
 use Rattle.command_io.specs.declared.refusal.CommandRefusal.{CommandRefusal}
 use Rattle.command_io.specs.declared.refusal.CommandRefusal.TheVariants.{OutOfMemory}
-use Rattle.commands.specs.Replays.{StopsUnprinted}
+use Rattle.commands.specs.ReplayTask.{StopsUnprinted}
 use Rattle.commands.specs.Tasks.{DoesTask, LeavesFiles, RefusesTask}
 use Rattle.commands.specs.declared.running.Unanswered.{Unanswered}
 use Rattle.commands.specs.declared.running.Unanswered.TheVariants.{Misused, Refused}

@@ -7,29 +7,29 @@ use Rattle.page_plan.specs.Sliding.{live_words}
 use Rattle.comp_trace.specs.declared.steps.shown.Shown.{Shown}
 use Rattle.comp_trace.specs.declared.text.line.Line.{Line}
 use Rattle.comp_trace.specs.declared.text.roots.NewRoot.{NewRoot}
-use Rattle.command_line.specs.Nexts.{marks_path, roots_path}
+use Rattle.command_line.specs.NextArguments.{marks_path, roots_path}
 use Rattle.command_line.specs.declared.next.NextMarks.{NextMarks}
 use Rattle.command_line.specs.declared.next.NextMarks.TheVariants as asking
 use Rattle.command_line.specs.declared.next.NextRun.{NextRun}
 use Rattle.command_io.specs.Disk.{Disk, WritesWhole}
 use Rattle.command_io.specs.Images.{IsHeapAt}
-use Rattle.command_io.specs.Marks.{AreMarksAt, RefusesMarksAt}
-use Rattle.command_io.specs.Roots.{AreRootsAt, RefusesRootsAt}
+use Rattle.command_io.specs.MarksAtPath.{AreMarksAt, RefusesMarksAt}
+use Rattle.command_io.specs.RootsAtPath.{AreRootsAt, RefusesRootsAt}
 use Rattle.command_io.specs.NewImages.{IsOfWritingImage}
 use Rattle.command_io.specs.Texts.{HasLines, HasLinesAt}
 use Rattle.command_io.specs.declared.refusal.Output.TheVariants as outputs
 use Rattle.command_io.specs.declared.refusal.CommandRefusal.{CommandRefusal}
 use Rattle.command_io.specs.declared.refusal.CommandRefusal.TheVariants.{CannotPrint}
 use Rattle.commands.specs.Outcomes.{IsOfHalt, RefusesInputs}
-use Rattle.commands.specs.Replays.{run_lines, PrintsRun}
+use Rattle.commands.specs.ReplayTask.{run_lines, PrintsRun}
 use Rattle.commands.specs.Cycled.{Given, IsCycledHeap, IsUncycled, refusal_by, shown_by}
 use Rattle.commands.specs.declared.cycling.Cycled.{Cycled}
 use Rattle.commands.specs.declared.cycling.Uncycled.{Uncycled}
 
 -- ---- from a heap, lines, and what is given for the next heap
 
--- The lines ran, and the image of the next heap was written, and these are the files since; then the values of the `get`
--- lines and the live words of that heap were printed.
+-- The lines ran, and the image of the next heap was written, and these are the files since; then the values of the
+-- `get` lines and the live words of that heap were printed.
 pub record Nexts {F W : Type 0} (disk : Disk F W) (asked : NextRun) (to : F) (before after : Option (List ℕ)) (lines : List Line) (given : Given) (heap : Heap) : Type 0 where
   pub shown : List Shown
   pub next : Heap
@@ -39,8 +39,8 @@ pub record Nexts {F W : Type 0} (disk : Disk F W) (asked : NextRun) (to : F) (be
 
 -- why the image of the next heap, or of another new one, was not written, or the lines after it not printed: there is
 -- no place for the image; or a call of its writer failed; or it was written, a call of the output failed, which
--- `CountsPrint` counts, and a beginning of the lines was printed between these two contents of the output; or memory ran
--- out
+-- `CountsPrint` counts, and a beginning of the lines was printed between these two contents of the output; or memory
+-- ran out
 abbrev pub IsOfWritingNext : {F W : Type 0} → Disk F W → List ℕ → List ℕ → F → Option (List ℕ) → Option (List ℕ) → List ℕ → CommandRefusal → Type 0
 IsOfWritingNext disk path bytes to before after lines CannotPrint = WritesWhole disk outputs.New path bytes to × AppendsSome before after lines
 IsOfWritingNext disk path bytes to before after lines refusal = IsOfWritingImage disk path bytes to refusal
@@ -87,7 +87,8 @@ abbrev pub MakesNext : {F W : Type 0} → Disk F W → NextRun → F → Option 
 MakesNext disk asked to before after = SomeCycle disk asked (Nexts disk asked to before after)
 
 -- what was printed, between these two contents of the output, are the values of a trace that was run over the heap,
--- and the live words of the heap that followed, with some marks or marked by what its roots reach, some roots or its own
+-- and the live words of the heap that followed, with some marks or marked by what its roots reach, some roots or its
+-- own
 abbrev pub PrintsNext : ℕ → ℕ → Option (List ℕ) → Option (List ℕ) → Heap → Type 0
 PrintsNext mutators fresh before after heap = (text : List ℕ) × (lines : List Line) × HasLines mutators (length heap.roots) lines text
     × (given : Given) × (shown : List Shown) × (next : Heap) × IsCycledHeap mutators fresh lines shown given heap next × PrintsRun before after shown (live_words (live next))

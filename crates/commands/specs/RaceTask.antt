@@ -25,7 +25,7 @@ use Rattle.comp_dump.specs.DumpEncoding.{dump_bytes}
 use Rattle.commands.specs.ByLine.{AreByLine, HasEnded, IsLeastRefusedLine}
 use Rattle.command_line.specs.declared.words.TraceRun.{TraceRun}
 use Rattle.command_io.specs.Disk.{Disk, WritesWhole}
-use Rattle.commands.specs.Replays.{dumped_of, run_lines, IsDumpAfter, IsHaltedRun, PrintsRun, RefusesTraced, Way}
+use Rattle.commands.specs.ReplayTask.{dumped_of, run_lines, IsDumpAfter, IsHaltedRun, PrintsRun, RefusesTraced, Way}
 use Rattle.command_io.specs.Texts.{HasLines}
 use Rattle.command_io.specs.declared.refusal.Output.TheVariants as outputs
 use Rattle.command_io.specs.declared.refusal.CommandRefusal.{CommandRefusal}

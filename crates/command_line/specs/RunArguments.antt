@@ -36,8 +36,8 @@ pub record IsLawfulRun (run : Run) : Type 0 where
   pub few : run.count ≤ 64
   pub within : run.pages ≤ 4096
 
--- the paths of an image and of what is judged; whether each compacted page must be built too; whether what is judged is a
--- file of words and roots; whether what was compared is printed; and whether heaps of edition three are read as well
+-- the paths of an image and of what is judged; whether each compacted page must be built too; whether what is judged is
+-- a file of words and roots; whether what was compared is printed; and whether heaps of edition three are read as well
 pub record Audit : Type 0 where
   pub image : List ℕ
   pub dump : List ℕ

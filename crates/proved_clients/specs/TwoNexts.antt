@@ -4,7 +4,7 @@ use Rattle.heap_layout.specs.Encoding.{encoding}
 use Rattle.heap_layout.specs.Heap.{Heap}
 use Rattle.comp_mutator.specs.Cycles.{IsOneLife}
 use Rattle.comp_trace.specs.declared.steps.shown.Shown.{Shown}
-use Rattle.command_line.specs.Nexts.{marks_path, roots_path}
+use Rattle.command_line.specs.NextArguments.{marks_path, roots_path}
 use Rattle.command_line.specs.declared.next.NextRun.{NextRun}
 use Rattle.command_io.specs.Memory.{bytes_at, HasPut}
 use Rattle.command_io.specs.declared.memory.MemoryFiles.{MemoryFiles}

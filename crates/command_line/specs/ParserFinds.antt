@@ -4,7 +4,7 @@ use Rattle.clap.specs.Words.{first_value, one_text}
 use Rattle.clap.specs.declared.parser.matches.Found.{Found}
 use Rattle.command_line.specs.Forms.{fresh, mutators}
 use Rattle.command_line.specs.Given.{IsFlag, IsNumberOr, Takes}
-use Rattle.command_line.specs.Runs.{Audit, Run}
+use Rattle.command_line.specs.RunArguments.{Audit, Run}
 
 -- a run was found: each of its paths, and for each option that was given a text that it takes
 pub record IsRunRequest (found : Found) : Type 0 where

@@ -1,7 +1,7 @@
 -- What is known of the roots at a path.
 use Rattle.std.specs.Prelude.{◌≡◌, ℕ, List, Option, Ok, Err}
 use Rattle.comp_trace.specs.declared.text.roots.NewRoot.{NewRoot}
-use Rattle.comp_trace.specs.Roots.{new_roots_of}
+use Rattle.comp_trace.specs.RootsText.{new_roots_of}
 use Rattle.command_io.specs.Disk.{Disk, SomeFile}
 use Rattle.command_io.specs.Texts.{SomeText}
 use Rattle.command_io.specs.declared.refusal.Input.TheVariants as inputs

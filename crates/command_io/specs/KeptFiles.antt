@@ -8,8 +8,8 @@ use Rattle.command_io.specs.declared.refusal.Output.{Output}
 use Rattle.command_io.specs.declared.keeping.Unkept.{Unkept}
 use Rattle.command_io.specs.declared.keeping.Unkept.TheVariants.{Device, OutOfMemory}
 
--- The writer was flushed: it holds what it had taken, and no call of it failed since. It was kept at the path, and these
--- are the files since.
+-- The writer was flushed: it holds what it had taken, and no call of it failed since. It was kept at the path, and
+-- these are the files since.
 pub record KeepsAll {F W : Type 0} (disk : Disk F W) (contents : W → Option (List ℕ)) (output : Output) (path : List ℕ) (written : Counted W) (to : F) : Type 0 where
   pub flushed : Counted W
   pub same : Keeps (contents (inner_of written)) (contents (inner_of flushed))

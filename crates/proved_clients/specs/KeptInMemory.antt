@@ -3,8 +3,8 @@ use Rattle.std.specs.Prelude.{◌≡◌, ◌⊎◌}
 use Rattle.command_line.specs.declared.words.TraceRun.{TraceRun}
 use Rattle.command_io.specs.Memory.{memory_disk, HasPut}
 use Rattle.command_io.specs.declared.memory.MemoryFiles.{MemoryFiles}
-use Rattle.commands.specs.Races.{dump_of_race, HasRace}
-use Rattle.commands.specs.Replays.{dump_of_run, RanOver, SomeRun}
+use Rattle.commands.specs.RaceTask.{dump_of_race, HasRace}
+use Rattle.commands.specs.ReplayTask.{dump_of_run, RanOver, SomeRun}
 
 -- some run of the trace over the heap of the image, both at the paths that are asked for: its dump was put at its path,
 -- and each other path has what it had

@@ -10,7 +10,7 @@ use Rattle.comp_mutator.specs.Fields.{HasSlidFieldOn, IsFieldOf, LacksField}
 use Rattle.comp_mutator.specs.Allocations.{own_page}
 use Rattle.comp_mutator.specs.Refusal.{Refusal}
 use Rattle.comp_mutator.specs.Refusal.TheVariants.{Null, NotAStart, NoSuchField, NotInEdition, ObjectTooLarge, OutOfPages, Busy, JournalFull, OutOfMemory}
-use Rattle.comp_trace.specs.Builds.{is_built, kind_if}
+use Rattle.comp_trace.specs.LineBuilds.{is_built, kind_if}
 use Rattle.comp_trace.specs.Immediates.{HasNoImmediate}
 use Rattle.comp_trace.specs.Lines.{with_entries}
 use Rattle.comp_trace.specs.declared.steps.shown.Shown.{Shown}

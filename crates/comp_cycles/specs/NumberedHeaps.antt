@@ -18,7 +18,8 @@ pub record Names : Type 0 where
   pub edition : Edition
   pub numbers : List (ℕ × ℕ)
 
--- the number of the object that starts at this address; 0 for null, and if no object does; an immediate stands for itself
+-- the number of the object that starts at this address; 0 for null, and if no object does; an immediate stands for
+-- itself
 abbrev pub number_at : Names → ℕ → ℕ
 number_at names a = cond (is_immediate names.edition a) a (look 0 names.numbers a)
 

@@ -21,8 +21,9 @@ roots_path (Given path) = None
 roots_path Reachable = None
 roots_path (ReachableFrom path) = Some path.now
 
--- the paths of an image, of a trace, of marks if they are given, of roots if they are named, and of the new image that is
--- written; the numbers of mutators, of fresh pages and of workers; and whether heaps of edition three are read as well
+-- the paths of an image, of a trace, of marks if they are given, of roots if they are named, and of the new image that
+-- is written; the numbers of mutators, of fresh pages and of workers; and whether heaps of edition three are read as
+-- well
 pub record Next : Type 0 where
   pub image : List ℕ
   pub trace : List ℕ
