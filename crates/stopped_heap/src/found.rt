@@ -6,7 +6,7 @@ ghost use Rattle.heap_layout.specs.Heap.{from_address, header_at, IsPlaced};
 ghost use Rattle.stopped_heap.specs.Reached.{IsReachedFrom};
 ghost use Rattle.stopped_heap.specs.Rounds.{AreReaching, IsFoundPart, IsReachedBy, LeadToReached};
 
-use crate::marking::references;
+use crate::marking::{AHEAD, ends_within, references};
 use crate::shape::shape_of;
 use heap_layout::{Edition, FROM_SPACE, is_set, set};
 use std::alloc::{AllocError, Global};
@@ -141,14 +141,14 @@ pub(crate) fn found_by(
         return None;
     };
     for k in 0..objects.len() {
-        if !find_from(
-            edition,
-            words,
-            roots,
-            heads,
-            &mut found,
-            objects[k] as usize,
-        ) {
+        let i = objects[k] as usize;
+        if k + AHEAD < objects.len() {
+            let ahead = objects[k + AHEAD] as usize;
+            if !ends_within(edition, words, i, ahead) {
+                return None;
+            }
+        }
+        if !find_from(edition, words, roots, heads, &mut found, i) {
             return None;
         }
     }
@@ -170,6 +170,7 @@ fn meet_object(
     requires reached { IsReachedFrom edition words.now roots.now i }
     requires met { AreReaching edition words.now roots.now queue.old.items heads.old }
     ensures met { OnOk result (AreReaching edition words.now roots.now queue.new.items heads.new) }
+    ensures longer { length queue.old.items ≤ length queue.new.items }
     ensures length { length heads.new ≡ length heads.old }
 {
     // Only the clauses read these.
@@ -199,6 +200,7 @@ fn meet_by(
     requires lead { IsReachedBy edition words.now roots.now word }
     requires met { AreReaching edition words.now roots.now queue.old.items heads.old }
     ensures met { OnOk result (AreReaching edition words.now roots.now queue.new.items heads.new) }
+    ensures longer { length queue.old.items ≤ length queue.new.items }
     ensures length { length heads.new ≡ length heads.old }
 {
     let Some(i) = index_of(words.len(), word) else {
@@ -223,6 +225,7 @@ pub(crate) fn meet_led(
     requires lead { LeadToReached edition words.now roots.now from.now }
     requires met { AreReaching edition words.now roots.now queue.old.items heads.old }
     ensures met { OnOk result (AreReaching edition words.now roots.now queue.new.items heads.new) }
+    ensures longer { length queue.old.items ≤ length queue.new.items }
     ensures length { length heads.new ≡ length heads.old }
 {
     for k in 0..from.len() {

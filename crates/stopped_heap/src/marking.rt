@@ -15,10 +15,10 @@ use crate::shape::shape_of;
 use heap_layout::Edition;
 use std::alloc::Global;
 
-// How many places ahead in the queue an object is looked at before its turn; and how many words away it may lie and not
-// be looked at, since the processor has it soon enough.
-const AHEAD: usize = 8;
+/// How many places ahead in the queue an object is looked at before its turn.
+pub(crate) const AHEAD: usize = 8;
 
+// How many words away it may lie and not be looked at, since the processor has it soon enough.
 const NEAR: usize = 512;
 
 /// The references of the object at index `i`, of which it has so many.
@@ -55,10 +55,10 @@ pub(crate) fn weak_words(
     &words[first..first + weak]
 }
 
-// Whether the object at index `ahead` ends within the words, or lies near index `i`. It has its turn later, and by then
-// its header has come from memory, while other objects are followed.
+/// Whether the object at index `ahead` ends within the words, or lies near index `i`. It has its turn later, and by
+/// then its header has come from memory, while other objects are followed.
 #[inline(always)]
-fn ends_within(edition: Edition, words: &[u64], i: usize, ahead: usize) -> bool
+pub(crate) fn ends_within(edition: Edition, words: &[u64], i: usize, ahead: usize) -> bool
     requires { ahead < length words.now }
     ensures { result ≡ false → length words.now < ahead + size_of (header_at edition words.now ahead) }
 {

@@ -28,8 +28,43 @@ pub(crate) const MAX_WORKERS: usize = 64;
 // Threads follow the references of one object if there are so many times `wide` of them or more.
 const SHARED: usize = 12;
 
+// How many objects are followed alone before the caller looks again at how the work goes.
+const BATCH: usize = 4_096;
+
+// The caller gives up once it followed as many objects alone as a heap has words, over this number, and `wide` of them
+// never waited: then one thread does it all.
+const PATIENCE: usize = 64;
+
+// How many objects, or references of one object, are looked at to tell how they lie.
+const SAMPLE: usize = 1_024;
+
 // The most objects of a round, so that what the threads found is not long.
 const LONG: usize = 262_144;
+
+// Whether most of the first of these objects lie more than `near` words from the one before. If not, one thread has
+// their headers from memory as fast as several.
+fn lie_apart(objects: &[u32], near: usize) -> bool {
+    let count = objects.len().min(SAMPLE);
+    let mut far = 0_usize;
+    for k in 1..count {
+        if objects[k].abs_diff(objects[k - 1]) as usize > near {
+            far = far.saturating_add(1);
+        }
+    }
+    far >= count / 2
+}
+
+// The same of the words to which these references lead.
+fn lead_apart(from: &[u64], near: usize) -> bool {
+    let count = from.len().min(SAMPLE);
+    let mut far = 0_usize;
+    for k in 1..count {
+        if from[k].abs_diff(from[k - 1]) > near as u64 {
+            far = far.saturating_add(1);
+        }
+    }
+    far >= count / 2
+}
 
 // What thread `k` finds: the objects to which the references of its run of `size` objects lead.
 fn found_at(
@@ -123,13 +158,39 @@ fn led_by_threads<R: Threads + Sync>(
     thread::map_indices(rt, alloc, workers, &part)
 }
 
-// Follows the references of the object at index `i`, of which it has `refs`. If they are `many` or more, so many
-// threads look up runs of them. The answer is false if a thread gave up, or memory runs out.
-fn follow<R: Threads + Sync>(
+// Follows the references of the object at index `i`, of which it has `refs`.
+#[inline(always)]
+fn follow_object(
+    edition: Edition,
+    words: &[u64],
+    roots: &[u64],
+    heads: &mut [u64],
+    queue: &mut Vec<u32>,
+    i: usize,
+    refs: usize,
+) -> Result<(), AllocError>
+    requires few { length words.now ≤ 2 ^ 31 }
+    requires room { length words.now ≤ 64 * length heads.old }
+    requires reached { IsReachedFrom edition words.now roots.now i }
+    requires placed { IsPlaced edition words.now i }
+    requires refs { refs ≡ refs_of (header_at edition words.now i) }
+    requires met { AreReaching edition words.now roots.now queue.old.items heads.old }
+    ensures met { OnOk result (AreReaching edition words.now roots.now queue.new.items heads.new) }
+    ensures longer { length queue.old.items ≤ length queue.new.items }
+    ensures length { length heads.new ≡ length heads.old }
+{
+    let from = references(edition, words, i, refs);
+    meet_led(edition, words, roots, heads, queue, from)
+}
+
+// The same of an object that has very many: so many threads look up runs of them. The answer is false if they lead
+// where one thread is as fast and `asked` says to ask that, or a thread gave up, or memory runs out.
+fn follow_large<R: Threads + Sync>(
     alloc: Global,
     rt: &R,
     workers: usize,
-    many: usize,
+    near: usize,
+    asked: bool,
     edition: Edition,
     words: &[u64],
     roots: &[u64],
@@ -149,13 +210,81 @@ fn follow<R: Threads + Sync>(
     ensures length { length heads.new ≡ length heads.old }
 {
     let from = references(edition, words, i, refs);
-    if refs < many {
-        return meet_led(edition, words, roots, heads, queue, from).is_ok();
+    if asked && !lead_apart(from, near) {
+        return false;
     }
     let Ok(parts) = led_by_threads(alloc, rt, workers, edition, words, roots, heads, from) else {
         return false;
     };
     meet_parts(edition, words, roots, heads, queue, &parts)
+}
+
+// Follows the references of the objects from place `next` of the queue on, one object after the other, until `wide` of
+// them or more wait, or one has `many` references or more, or enough were followed. The answer is the place behind what
+// was followed. None if an object is too long for the edition or ends past the words, or memory runs out.
+#[inline(always)]
+fn follow_alone_by(
+    edition: Edition,
+    words: &[u64],
+    roots: &[u64],
+    heads: &mut [u64],
+    queue: &mut Vec<u32>,
+    wide: usize,
+    many: usize,
+    next: usize,
+) -> Option<usize>
+    requires few { length words.now ≤ 2 ^ 31 }
+    requires room { length words.now ≤ 64 * length heads.old }
+    requires within { next < length queue.old.items }
+    requires met { AreReaching edition words.now roots.now queue.old.items heads.old }
+    ensures met { IfSome result (λ _. AreReaching edition words.now roots.now queue.new.items heads.new) }
+    ensures longer { length queue.old.items ≤ length queue.new.items }
+    ensures order { IfSome result (λ end. next ≤ end) }
+    ensures length { length heads.new ≡ length heads.old }
+{
+    let mut end = next;
+    let mut turns = BATCH;
+    while turns > 0 && end < queue.len() && queue.len() - end < wide {
+        let i = queue[end] as usize;
+        let refs = refs_at(edition, words, i)?;
+        if refs >= many {
+            return Some(end);
+        }
+        if follow_object(edition, words, roots, heads, queue, i, refs).is_err() {
+            return None;
+        }
+        end += 1;
+        turns -= 1;
+    }
+    Some(end)
+}
+
+// The same, compiled for each edition.
+fn follow_alone(
+    edition: Edition,
+    words: &[u64],
+    roots: &[u64],
+    heads: &mut [u64],
+    queue: &mut Vec<u32>,
+    wide: usize,
+    many: usize,
+    next: usize,
+) -> Option<usize>
+    requires few { length words.now ≤ 2 ^ 31 }
+    requires room { length words.now ≤ 64 * length heads.old }
+    requires within { next < length queue.old.items }
+    requires met { AreReaching edition words.now roots.now queue.old.items heads.old }
+    ensures met { IfSome result (λ _. AreReaching edition words.now roots.now queue.new.items heads.new) }
+    ensures longer { length queue.old.items ≤ length queue.new.items }
+    ensures order { IfSome result (λ end. next ≤ end) }
+    ensures length { length heads.new ≡ length heads.old }
+{
+    match edition {
+        Edition::One => follow_alone_by(edition, words, roots, heads, queue, wide, many, next),
+        Edition::Two => follow_alone_by(edition, words, roots, heads, queue, wide, many, next),
+        Edition::Three => follow_alone_by(edition, words, roots, heads, queue, wide, many, next),
+        Edition::Four => follow_alone_by(edition, words, roots, heads, queue, wide, many, next),
+    }
 }
 
 // Follows the references of the objects from place `next` of the queue to place `end`, in so many threads. The answer
@@ -189,15 +318,17 @@ fn follow_round<R: Threads + Sync>(
     meet_parts(edition, words, roots, heads, queue, &parts)
 }
 
-// Follows the references of the object at place `next` of the queue, in so many threads if they are very many; or those
-// of many objects from there on, in so many threads, if `wide` of them or more wait. The answer is the place behind
-// what was followed. None if a thread gave up, or an object is too long for the edition or ends past the words, or
-// memory runs out.
+// Follows the references of some objects from place `next` of the queue on: one after the other while fewer than `wide`
+// of them wait, and else in so many threads; those of one object too if they are very many. The answer is the place
+// behind what was followed. None if a thread gave up, or an object is too long for the edition or ends past the words,
+// or memory runs out; and if `asked`, where what waits lies so that one thread is as fast.
 fn follow_some<R: Threads + Sync>(
     alloc: Global,
     rt: &R,
     workers: usize,
     wide: usize,
+    near: usize,
+    asked: bool,
     edition: Edition,
     words: &[u64],
     roots: &[u64],
@@ -213,37 +344,43 @@ fn follow_some<R: Threads + Sync>(
     ensures met { IfSome result (λ _. AreReaching edition words.now roots.now queue.new.items heads.new) }
     ensures length { length heads.new ≡ length heads.old }
 {
-    let i = queue[next] as usize;
-    let Some(refs) = refs_at(edition, words, i) else {
-        return None;
-    };
-    let many = wide.saturating_mul(SHARED);
     let waiting = (queue.len() - next).min(LONG);
-    if waiting < wide || refs >= many {
-        if !follow(
-            alloc, rt, workers, many, edition, words, roots, heads, queue, i, refs,
+    if waiting >= wide {
+        let end = next + waiting;
+        if asked && !lie_apart(&queue[next..end], near) {
+            return None;
+        }
+        if !follow_round(
+            alloc, rt, workers, edition, words, roots, heads, queue, next, end,
         ) {
             return None;
         }
-        return Some(next + 1);
+        return Some(end);
     }
-    let end = next + waiting;
-    if !follow_round(
-        alloc, rt, workers, edition, words, roots, heads, queue, next, end,
+    let many = wide.saturating_mul(SHARED);
+    let end = follow_alone(edition, words, roots, heads, queue, wide, many, next)?;
+    if end > next {
+        return Some(end);
+    }
+    let i = queue[next] as usize;
+    let refs = refs_at(edition, words, i)?;
+    if !follow_large(
+        alloc, rt, workers, near, asked, edition, words, roots, heads, queue, i, refs,
     ) {
         return None;
     }
-    Some(end)
+    Some(next + 1)
 }
 
 // Sets the bits of objects that the roots reach, and no others, in so many threads where `wide` objects or more wait.
-// No bit may be set before. The answer is false if memory runs out, or an object is too long for the edition or ends
-// past the words.
+// No bit may be set before. The answer is false if there is too little for threads to do, or memory runs out, or an
+// object is too long for the edition or ends past the words.
 fn reach<R: Threads + Sync>(
     alloc: Global,
     rt: &R,
     workers: usize,
     wide: usize,
+    near: usize,
     edition: Edition,
     words: &[u64],
     roots: &[u64],
@@ -261,14 +398,22 @@ fn reach<R: Threads + Sync>(
         return false;
     }
     let mut next = 0;
+    // Whether nothing was shared out yet. Then it is asked whether that gains.
+    let mut asked = true;
+    let patience = wide.max(words.len() / PATIENCE);
     // Each turn follows one object or more, and no more are met than there are words.
     let mut turns = words.len();
     while turns > 0 && next < queue.len() {
+        let many = queue.len() - next >= wide;
+        if asked && !many && next > patience {
+            return false;
+        }
         let Some(end) = follow_some(
-            alloc, rt, workers, wide, edition, words, roots, heads, &mut queue, next,
+            alloc, rt, workers, wide, near, asked, edition, words, roots, heads, &mut queue, next,
         ) else {
             return false;
         };
+        asked = asked && !many;
         next = end;
         turns -= 1;
     }
@@ -277,12 +422,14 @@ fn reach<R: Threads + Sync>(
 
 /// Sets the bits of the objects that the roots reach in `heads`, and those of all their words in `bits`, in so many
 /// threads where `wide` objects or more wait. No bit may be set before. Err if memory runs out, and where there is a
-/// fault too: one thread finds it.
+/// fault too: one thread finds it; and where there is too little for threads to do, or most of what waits lies at most
+/// `near` words from the one before.
 pub(crate) fn mark_by_threads<R: Threads + Sync>(
     alloc: Global,
     rt: &R,
     workers: usize,
     wide: usize,
+    near: usize,
     edition: Edition,
     words: &[u64],
     roots: &[u64],
@@ -300,7 +447,7 @@ pub(crate) fn mark_by_threads<R: Threads + Sync>(
     ensures same { length heads.new ≡ length heads.old }
     ensures long { length bits.new ≡ length bits.old }
 {
-    if !reach(alloc, rt, workers, wide, edition, words, roots, heads) {
+    if !reach(alloc, rt, workers, wide, near, edition, words, roots, heads) {
         return Err(AllocError);
     }
     if let Err(_) = check_kept(edition, heads, roots) {

@@ -18,13 +18,17 @@ const LONG: usize = 65_536;
 // object alone that has fewer than twelve times as many references.
 const WIDE: usize = 8_192;
 
+// Objects that lie so many words from the one before, or fewer, are near: one thread follows them as fast.
+const NEAR: usize = 512;
+
 impl<'w> Survey<'w> {
     /// Like `of`, in at most so many threads, the caller among them, and 64 at most; the survey is the same, and a
     /// fault is the one of `of`. With none or one the caller surveys alone, and so it does for fewer than 65,536 words.
     /// Threads are started while 8,192 objects or more wait to be looked at, and for 98,304 references or more of one
-    /// object: it gains where that is often so, as in trees, graphs and tables, and the objects lie far apart. A list
-    /// is followed as by one thread; then the threads look at the objects once more, in the order of their addresses,
-    /// so that takes somewhat longer than `of`.
+    /// object: it gains where that is often so, as in trees, graphs and tables, and the objects lie far apart. The
+    /// caller surveys alone where so many never wait, as in a list, once it followed as many objects as a 64th of the
+    /// words; and where most of the first that wait lie within 512 words of the one before, as in arrays whose objects
+    /// were made in order.
     ///
     /// While threads are at work each has a list of four bytes for each reference that leads to an object that was not
     /// met when they began. Where there is no memory for that, and where a fault is met, the caller surveys anew,
@@ -45,7 +49,9 @@ impl<'w> Survey<'w> {
     {
         if workers > 1 && words.len() >= LONG {
             let workers = workers.min(MAX_WORKERS);
-            if let Ok(survey) = Survey::of_rounds(alloc, rt, workers, WIDE, edition, words, roots) {
+            if let Ok(survey) = Survey::of_rounds(
+                alloc, rt, workers, WIDE, NEAR, edition, words, roots,
+            ) {
                 return Ok(survey);
             }
         }
@@ -53,12 +59,13 @@ impl<'w> Survey<'w> {
     }
 
     // Surveys in so many threads where `wide` objects or more wait in the queue. Err if memory runs out, and where
-    // there is a fault too: one thread finds it.
+    // there is a fault too: one thread finds it; and where so many never wait, or what waits lies near.
     pub(crate) fn of_rounds<R: Threads + Sync>(
         alloc: Global,
         rt: &R,
         workers: usize,
         wide: usize,
+        near: usize,
         edition: Edition,
         words: &'w [u64],
         roots: &[u64],
@@ -76,7 +83,7 @@ impl<'w> Survey<'w> {
         let mut heads = vec![in alloc; 0u64; blocks]?;
         let mut bits = vec![in alloc; 0u64; blocks]?;
         mark_by_threads(
-            alloc, rt, workers, wide, edition, words, roots, &mut heads, &mut bits,
+            alloc, rt, workers, wide, near, edition, words, roots, &mut heads, &mut bits,
         )?;
         let counts = offsets(alloc, &bits)?;
         Ok(Survey {

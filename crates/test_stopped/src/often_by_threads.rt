@@ -39,11 +39,11 @@ fn objects(alloc: Global) -> Result<Vec<u64>, AllocError> {
     Ok(words)
 }
 
-// The roots.
+// The roots, each far from the one before: threads are started only then.
 fn roots(alloc: Global) -> Result<Vec<u64>, AllocError> {
     let mut roots = Vec::new(alloc);
     for number in 0..ROOTS {
-        roots.push(address(number))?;
+        roots.push(address(number.saturating_mul(7_919) % ROOTS))?;
     }
     Ok(roots)
 }

@@ -107,11 +107,13 @@ fn surveys_by_marks_without_memory_are_refused(rt: HostRuntime) {
     expect_eq(&rt, At::new("surveyed", 0), surveyed, 1);
 }
 
-// The addresses of the first words.
+// The addresses of the first words, each far from the one before: threads are started only then. 7,919 must not divide
+// their number.
 fn addresses(alloc: Global, count: u64) -> Result<Vec<u64>, AllocError> {
     let mut addresses = Vec::new(alloc);
     for at in 0..count {
-        addresses.push(F.saturating_add(at))?;
+        let word = at.saturating_mul(7_919).checked_rem(count).unwrap_or(0);
+        addresses.push(F.saturating_add(word))?;
     }
     Ok(addresses)
 }

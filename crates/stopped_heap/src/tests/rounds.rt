@@ -90,7 +90,8 @@ fn expect_same(
     workers: usize,
     wide: usize,
 ) {
-    let rounds = Survey::of_rounds(rt.alloc(), rt, workers.max(1), wide, edition, words, roots);
+    let workers = workers.max(1);
+    let rounds = Survey::of_rounds(rt.alloc(), rt, workers, wide, 0, edition, words, roots);
     match Survey::of(rt.alloc(), edition, words, roots) {
         Ok(alone) => {
             let rounds = rounds.expect(rt, "a survey");
@@ -145,8 +146,59 @@ fn a_list_is_followed_to_its_end(rt: HostRuntime) {
     let words = list(&rt, 500);
     let roots = [F + 998];
     for workers in [1, 2, 5] {
-        for wide in [1, 2] {
-            expect_same(&rt, Edition::Three, &words, &roots, workers, wide);
+        expect_same(&rt, Edition::Three, &words, &roots, workers, 1);
+    }
+}
+
+// Two objects of a list never wait. The caller looks how the work goes after 4,096 objects, and gives up if that are
+// more than a 64th of the words.
+#[test]
+fn a_list_is_left_to_one_thread(rt: HostRuntime) {
+    let words = list(&rt, 5_000);
+    for (objects, given_up) in [(1u64, false), (4_096, false), (4_097, true), (5_000, true)] {
+        let roots = [F + 2 * objects - 2];
+        let rounds = Survey::of_rounds(rt.alloc(), &rt, 2, 2, 0, Edition::Three, &words, &roots);
+        assert_eq!(&rt; rounds.is_err(), given_up);
+    }
+}
+
+// So many objects of two words, in order, behind a table that leads to them in order.
+fn row(rt: &(impl Abort + AllocGlobal), count: u16) -> Vec<u64> {
+    let mut words = Vec::new(rt.alloc());
+    words
+        .push(Header::new(count, 0, 0).word())
+        .expect(rt, "words");
+    let first = F.wrapping_add(u64::from(count)).wrapping_add(1);
+    for k in 0..u64::from(count) {
+        words
+            .push(first.wrapping_add(k.wrapping_mul(2)))
+            .expect(rt, "words");
+    }
+    for _ in 0..count {
+        words.push(Header::new(0, 1, 0).word()).expect(rt, "words");
+        words.push(7).expect(rt, "words");
+    }
+    words
+}
+
+// Objects that lie two words apart are left to one thread where two words are near, whether they wait or a table leads
+// to them. In edition three 12 times `wide` references or more are looked up by threads.
+#[test]
+fn objects_that_lie_near_are_left_to_one_thread(rt: HostRuntime) {
+    let words = row(&rt, 600);
+    for wide in [50, 51, 600] {
+        for (near, given_up) in [(0, false), (1, false), (2, true), (512, true)] {
+            let rounds = Survey::of_rounds(
+                rt.alloc(),
+                &rt,
+                3,
+                wide,
+                near,
+                Edition::Three,
+                &words,
+                &[F],
+            );
+            assert_eq!(&rt; rounds.is_err(), given_up);
         }
     }
 }

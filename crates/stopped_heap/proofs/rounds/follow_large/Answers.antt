@@ -1,9 +1,5 @@
 use Rattle.stopped_heap.proofs.Leading.{references-lead, words-reached}
-use Rattle.stopped_heap.proofs.rounds.follow.Goals as goal
-
-pub meet_led-requires-clause-lead : goal.meet_led-requires-clause-lead
-meet_led-requires-clause-lead g c =
-    references-lead c.args.edition c.args.words.now c.args.roots.now c.references-from.result.now c.args.i c.requires.reached c.references-from.ensures
+use Rattle.stopped_heap.proofs.rounds.follow_large.Goals as goal
 
 pub led_by_threads-requires-clause-lead : goal.led_by_threads-requires-clause-lead
 led_by_threads-requires-clause-lead g c = λ lives outlives.
