@@ -5,6 +5,7 @@ pub mod NumberedHeaps
 pub mod NextHeap
 pub mod Cycles
 pub mod Ends
+pub mod BlankPages
 pub mod DrawnCycle
 pub use Rattle.comp_history.specs.Merged
 pub use Rattle.comp_history.specs.CellEnds

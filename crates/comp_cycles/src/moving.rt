@@ -1,11 +1,12 @@
 //! Makes the to-space words of a finished heap the from-space words of the next heap.
-ghost use Rattle.std.specs.Prelude.{◌≡◌, ℕ, ◌+◌, ◌*◌, ◌^◌, ◌<◌, ◌≤◌, IfOk, OnOk, length, slice_index, slice_index_or, vec_capacity, vec_len, Some, None};
+ghost use Rattle.std.specs.Prelude.{◌≡◌, ℕ, ◌+◌, ◌*◌, ◌^◌, ◌<◌, ◌≤◌, true, List, IfOk, OnOk, length, slice_index, slice_index_or, vec_capacity, vec_len, Some, None};
 ghost use Rattle.comp_history.specs.Lawful.{kind_at};
 ghost use Rattle.comp_history.specs.Locks.{Journals};
 ghost use Rattle.comp_history.specs.Setup.{Setup};
 ghost use Rattle.comp_history.specs.Objects.{word_on};
 ghost use Rattle.comp_cycles.specs.Finishes.{journals_of, pages_of};
 ghost use Rattle.comp_cycles.specs.Ends.{setup_in, words_at, AreMoved, IsEndOf};
+ghost use Rattle.comp_cycles.specs.BlankPages.{IsBlank};
 ghost use Rattle.comp_cycles.specs.NextHeap.{kind_in, lowered_as, word_in};
 
 use crate::finished::Finished;
@@ -82,6 +83,21 @@ fn add_page(
     }
 }
 
+// Adds the words of a page that no object is on. Requires room for them.
+fn add_blank(words: &mut Vec<u64>)
+    requires room { vec_len words.old + 64 ≤ vec_capacity words.old }
+    ensures moved { (u : Setup) (journals : Journals) (p : ℕ) (starts : List ℕ) → AreMoved u journals (64 * p) words.old.items starts → IsBlank u journals p
+        → AreMoved u journals (64 * (p + 1)) words.new.items starts }
+    ensures len { vec_len words.new ≡ vec_len words.old + 64 }
+    ensures capacity { vec_capacity words.new ≡ vec_capacity words.old }
+{
+    let mut offset = 0_usize;
+    while offset < 64 {
+        words.push_reserved(0);
+        offset += 1;
+    }
+}
+
 // The journal of page `p`; empty if the page was never built.
 fn journal_on(finished: &Finished, p: usize) -> &[Entry]
     requires { p < length (pages_of finished.now) }
@@ -91,6 +107,21 @@ fn journal_on(finished: &Finished, p: usize) -> &[Entry]
         Some(page) => page.journal(),
         None => &[],
     }
+}
+
+// Whether page `p` is a fresh page on which nothing was made.
+fn is_blank<B: Builder>(builder: &B, finished: &Finished, p: usize) -> bool
+    requires of { IsEndOf (B.heap builder.now) finished.now }
+    requires inside { p < length (pages_of finished.now) }
+    ensures { result ≡ true → IsBlank (setup_in (B.heap builder.now) finished.now) (journals_of finished.now) p }
+{
+    if (p as u64) < builder.plan().pages() {
+        return false;
+    }
+    if journal_on(finished, p).len() > 0 {
+        return false;
+    }
+    true
 }
 
 // The kind of each word of page `p`.
@@ -132,6 +163,35 @@ fn words_on<B: Builder>(
     }
 }
 
+// Moves the words of page `p`. Requires room for them.
+fn move_page<B: Builder>(
+    alloc: Global,
+    builder: &B,
+    finished: &Finished,
+    words: &mut Vec<u64>,
+    starts: &mut [u64],
+    p: usize,
+) -> Result<(), OutOfMemory>
+    requires of { IsEndOf (B.heap builder.now) finished.now }
+    requires inside { p < length (pages_of finished.now) }
+    requires room { vec_len words.old + 64 ≤ vec_capacity words.old }
+    requires bits { vec_len words.old + 64 ≤ 64 * length starts.old }
+    requires before { AreMoved (setup_in (B.heap builder.now) finished.now) (journals_of finished.now) (64 * p) words.old.items starts.old }
+    ensures moved { OnOk result (AreMoved (setup_in (B.heap builder.now) finished.now) (journals_of finished.now) (64 * (p + 1)) words.new.items starts.new) }
+    ensures len { OnOk result (vec_len words.new ≡ vec_len words.old + 64) }
+    ensures capacity { OnOk result (vec_capacity words.new ≡ vec_capacity words.old) }
+    ensures bits { OnOk result (length starts.new ≡ length starts.old) }
+{
+    if is_blank(builder, finished, p) {
+        add_blank(words);
+        return Ok(());
+    }
+    let kinds = kinds_of(alloc, builder, finished, p)?;
+    let page = words_on(alloc, builder, finished, p)?;
+    add_page(words, starts, finished.edition(), &kinds, &page);
+    Ok(())
+}
+
 // Moves the words of all pages. Requires room for them.
 fn move_pages<B: Builder>(
     alloc: Global,
@@ -147,9 +207,7 @@ fn move_pages<B: Builder>(
     ensures moved { OnOk result (AreMoved (setup_in (B.heap builder.now) finished.now) (journals_of finished.now) (64 * length (pages_of finished.now)) words.new.items starts.new) }
 {
     for p in 0..finished.pages().len() {
-        let kinds = kinds_of(alloc, builder, finished, p)?;
-        let page = words_on(alloc, builder, finished, p)?;
-        add_page(words, starts, finished.edition(), &kinds, &page);
+        move_page(alloc, builder, finished, words, starts, p)?;
     }
     Ok(())
 }

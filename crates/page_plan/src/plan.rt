@@ -235,9 +235,10 @@ impl Plan {
     {
         let mut kinds = [None; 64];
         let mut cursor = page_builder::cursor_at(self, p);
-        for offset in 0..64 {
-            kinds[offset] = page_builder::kind_at(self, cursor);
-            cursor = page_builder::next(self, cursor);
+        let first = cursor.new_index;
+        let end = self.live_words().min(first + 64);
+        while cursor.new_index < end {
+            cursor = page_builder::tell_object(self, &mut kinds, first, cursor, end);
         }
         kinds
     }
