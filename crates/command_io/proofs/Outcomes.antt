@@ -9,7 +9,7 @@ use Rattle.comp_dump.specs.declared.fault.DumpFault.TheVariants as faults
 use Rattle.command_io.specs.Disk.{Disk, IsUnkept, LeavesCounted, RefusedUnmade}
 use Rattle.command_io.specs.Dumps.{IsOfDumping}
 use Rattle.command_io.specs.NewImages.{IsOfWritingImage}
-use Rattle.command_io.specs.Pictures.{IsOfDrawing}
+use Rattle.command_io.specs.Pictures.{IsOfDrawing, IsOfWritingPicture}
 use Rattle.command_io.specs.Printing.{CountsPrint, RefusedUnprinted}
 use Rattle.command_io.specs.declared.refusal.CommandRefusal.{CommandRefusal}
 use Rattle.command_io.specs.declared.refusal.CommandRefusal.TheVariants.{Layout, Mutator, Sweep, Trace, Dump, Audit, Moved, Survey, CannotWrite, CannotOpen, CannotCreate, ReadFailed, CannotPrint, NoSuchWord, BadMarks, OutOfMemory, BadRoots}
@@ -135,6 +135,26 @@ unmade_by disk path bytes from to OutOfMemory unkept h = unkept refl
 -- a refusal for the new image is not one for the output
 pub uncounted_image : {F W : Type 0} (disk : Disk F W) (path bytes : List ℕ) (to : F) (n : ℕ) (refusal : CommandRefusal) → IsOfWritingImage disk path bytes to refusal → CountsPrint {T = Unit {0}} n n (Err refusal)
 uncounted_image disk path bytes to n refusal h = uncounted_by n n refusal refl (λ e. subst (IsOfWritingImage disk path bytes to) e h)
+
+-- why the bytes of a picture were not written is why it was not drawn
+pub drawing : {F W : Type 0} (disk : Disk F W) (path bytes : List ℕ) (to : F) (refusal : CommandRefusal) → IsOfWritingPicture disk path bytes to refusal → IsOfDrawing disk path to refusal
+drawing disk path bytes to (CannotWrite output) h = (h.0, (bytes, h.1))
+drawing disk path bytes to (CannotCreate output) h = h
+drawing disk path bytes to OutOfMemory h = tt
+drawing disk path bytes to CannotPrint h = absurd h
+drawing disk path bytes to (Layout fault) h = absurd h
+drawing disk path bytes to (Mutator refused) h = absurd h
+drawing disk path bytes to (Sweep fault) h = absurd h
+drawing disk path bytes to (Trace fault) h = absurd h
+drawing disk path bytes to (Dump fault) h = absurd h
+drawing disk path bytes to (Audit fault) h = absurd h
+drawing disk path bytes to (Moved fault) h = absurd h
+drawing disk path bytes to (Survey fault) h = absurd h
+drawing disk path bytes to (CannotOpen input) h = absurd h
+drawing disk path bytes to (ReadFailed input) h = absurd h
+drawing disk path bytes to (NoSuchWord index) h = absurd h
+drawing disk path bytes to (BadMarks line) h = absurd h
+drawing disk path bytes to (BadRoots line) h = absurd h
 
 -- a refusal for the picture, which was not kept
 pub unmade_map : {F W : Type 0} (disk : Disk F W) (path : List ℕ) (from to : F) (refusal : CommandRefusal) → (refusal ≡ OutOfMemory → IsUnkept disk from to) → IsOfDrawing disk path to refusal

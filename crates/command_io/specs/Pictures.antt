@@ -5,6 +5,14 @@ use Rattle.command_io.specs.declared.refusal.Output.TheVariants as outputs
 use Rattle.command_io.specs.declared.refusal.CommandRefusal.{CommandRefusal}
 use Rattle.command_io.specs.declared.refusal.CommandRefusal.TheVariants.{CannotCreate, CannotWrite, OutOfMemory}
 
+-- why these bytes of a picture were not written: there is no place for them, or a call of the writer failed, or memory
+-- ran out; the files have counted the call that failed
+abbrev pub IsOfWritingPicture : {F W : Type 0} → Disk F W → List ℕ → List ℕ → F → CommandRefusal → Type 0
+IsOfWritingPicture disk path bytes to (CannotCreate output) = (output ≡ outputs.Map) × disk.bars outputs.Map path × disk.counts 1 to
+IsOfWritingPicture disk path bytes to (CannotWrite output) = (output ≡ outputs.Map) × WritesBeginning disk outputs.Map path bytes to
+IsOfWritingPicture disk path bytes to OutOfMemory = Unit {0}
+IsOfWritingPicture disk path bytes to _ = ⊥
+
 -- some bytes, those of a picture, were written whole to the path, and these are the files since
 abbrev pub DrawsWhole : {F W : Type 0} → Disk F W → List ℕ → F → Type 0
 DrawsWhole disk path to = (picture : List ℕ) × WritesWhole disk outputs.Map path picture to

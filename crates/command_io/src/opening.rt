@@ -1,5 +1,5 @@
 //! How the program opens the files that it reads, and creates those that it makes.
-ghost use Rattle.std.specs.Prelude.{◌≡◌, ℕ, List, refl, IfOk, IfErr, OnOk, OnErr};
+ghost use Rattle.std.specs.Prelude.{◌≡◌, ◌⊎◌, ℕ, List, refl, codes, IfOk, IfErr, OnOk, OnErr};
 ghost use Rattle.heap_layout.specs.Counted.{failures_of};
 ghost use Rattle.heap_layout.specs.declared.counted.Counted.{Counted as ACounted};
 ghost use Rattle.command_io.specs.declared.refusal.Output.{Output as AnOutput};
@@ -68,8 +68,8 @@ pub trait Files {
         → (disk from).begins between → (disk between).counts n to → (disk from).counts n to };
 }
 
-/// The files of a runtime, read and written through buffers. As long as a file that is made is not whole, a regular
-/// file at its path stays as it was.
+/// The files of a runtime, read and written through buffers. What is read at the path `-` is standard input. As
+/// long as a file that is made is not whole, a regular file at its path stays as it was.
 #[derive(Drop)]
 pub struct RuntimeFiles<'a, R> {
     rt: &'a R,
@@ -91,6 +91,13 @@ impl<'a, R> RuntimeFiles<'a, R> {
     }
 }
 
+// The path at which the system has what is read: standard input for `-`.
+fn readable(path: &str) -> &str
+    ensures { result.now ≡ path.now ⊎ (path.now ≡ codes "-") × (result.now ≡ codes "/dev/stdin") }
+{
+    if path == "-" { "/dev/stdin" } else { path }
+}
+
 impl<'a, R: rt::Files + AllocGlobal> Files for RuntimeFiles<'a, R> {
     type Reader = BufReader<R::File, Global>;
 
@@ -110,7 +117,7 @@ impl<'a, R: rt::Files + AllocGlobal> Files for RuntimeFiles<'a, R> {
         input: Input,
         path: &str,
     ) -> Result<BufReader<R::File, Global>, CommandRefusal> {
-        let file = match fs::open(self.rt, path) {
+        let file = match fs::open(self.rt, readable(path)) {
             Ok(file) => file,
             Err(_) => {
                 self.count(1);
