@@ -3,6 +3,7 @@ use crate::memory_files::{File, Memory};
 use crate::printed_answers::{Asked, is_answered};
 use command_io::CommandRefusal;
 use comp_dump::{AuditFault, DumpFault};
+use heap_layout::TO_SPACE as T;
 use std::process::Abort;
 use std::thread::Threads;
 use test_support::{
@@ -85,19 +86,19 @@ static FORGED: [Forgery; 28] = [
         "a data word",
         Change::Word(FIRST_DATA, 12),
         Change::Word(TOTAL, 6),
-        CommandRefusal::Audit(AuditFault::WrongWord(8_589_934_593)),
+        CommandRefusal::Audit(AuditFault::WrongWord(T + 1)),
     ),
     (
         "the last word",
         Change::Word(LAST_WORD, 1),
         Change::Word(TOTAL, 6),
-        CommandRefusal::Audit(AuditFault::WrongWord(8_589_934_655)),
+        CommandRefusal::Audit(AuditFault::WrongWord(T + 63)),
     ),
     (
         "a reference into an object",
-        Change::Word(REFERENCE_VALUE, 8_589_934_593),
-        Change::Word(REFERENCE, 8_589_934_593),
-        CommandRefusal::Audit(AuditFault::LooseReference(8_589_934_595)),
+        Change::Word(REFERENCE_VALUE, T + 1),
+        Change::Word(REFERENCE, T + 1),
+        CommandRefusal::Audit(AuditFault::LooseReference(T + 3)),
     ),
     (
         "a stamp twice",

@@ -5,7 +5,7 @@ use command_line::{NextMarks, NextRun};
 use commands::print_next;
 use comp_access::Refusal;
 use comp_trace::TraceFault;
-use heap_layout::{Counted, LayoutFault};
+use heap_layout::{Counted, FROM_SPACE as F, LayoutFault};
 use std::process::Abort;
 use std::thread::Threads;
 use test_support::{Failure, Narrow, Part, bytes_of};
@@ -36,10 +36,10 @@ const ZEROS: [u64; 188] = [0; 188];
 const NEW_IMAGE: [Part; 6] = [
     Part::Bytes(b"COMPHEAP"),
     Part::Numbers(&[1, 192, 2, 1]),
-    Part::Words(&[4_295_032_832, 11, 12_884_901_889, 4_294_967_360]),
+    Part::Words(&[4_295_032_832, 11, 12_884_901_889, F + 64]),
     Part::Words(&ZEROS),
     Part::Numbers(&[2, 64]),
-    Part::Words(&[4_294_967_298]),
+    Part::Words(&[F + 2]),
 ];
 
 // Writes the new image as a cycle says.

@@ -48,7 +48,7 @@ fn expect_forwarded(rt: &(impl Abort + Threads + Sync), alloc: Global, edition: 
     expect_eq(rt, At::new("live", 0), second.live_words(), 6);
     let page = first_page(rt, alloc, &second);
     expect_eq(rt, At::new("field 0", 0), page.get(1), 0);
-    expect_eq(rt, At::new("field 1", 0), page.get(2), 8_589_934_596);
+    expect_eq(rt, At::new("field 1", 0), page.get(2), T + 4);
 }
 
 #[test]

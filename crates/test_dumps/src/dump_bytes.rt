@@ -2,6 +2,7 @@
 ghost use Rattle.std.specs.Prelude.{◌≤◌};
 
 use crate::large_dump_bytes::{MANY_SWEPT, MANY_WRITTEN, MIXED_TOUCHED};
+use heap_layout::{FROM_SPACE as F, TO_SPACE as T};
 use std::alloc::{AllocError, Global};
 use std::process::Abort;
 
@@ -84,7 +85,7 @@ static NOTHING: [Part; 1] = [Part::Bytes(&[
 static SMALLEST: [Part; 8] = [
     MAGIC,
     Part::Fours(&[1, 1, 0, 1, 1]),
-    Part::Eights(&[8_589_934_592]),
+    Part::Eights(&[T]),
     BUILT,
     Part::Eights(&[30_064_771_072]),
     Part::Zeros(504 + 4),
@@ -107,14 +108,14 @@ static TOUCHED: [Part; 8] = [
 static LINKED: [Part; 19] = [
     MAGIC,
     Part::Fours(&[1, 1, 2, 3, 1]),
-    Part::Eights(&[8_589_934_594]),
+    Part::Eights(&[T + 2]),
     BUILT,
-    Part::Eights(&[4_295_032_832, 11, 12_884_901_889, 8_589_934_656]),
+    Part::Eights(&[4_295_032_832, 11, 12_884_901_889, T + 64]),
     Part::Zeros(480),
     Part::Fours(&[1]),
     Part::Eights(&[1]),
     Part::Bytes(&[0, 1, 3]),
-    Part::Eights(&[8_589_934_656]),
+    Part::Eights(&[T + 64]),
     BUILT,
     Part::Zeros(512),
     Part::Fours(&[1]),
@@ -130,9 +131,9 @@ static LINKED: [Part; 19] = [
 static PUT: [Part; 13] = [
     MAGIC,
     Part::Fours(&[1, 2, 64, 65, 1]),
-    Part::Eights(&[8_589_934_594]),
+    Part::Eights(&[T + 2]),
     BUILT,
-    Part::Eights(&[4_295_032_832, 7, 12_884_901_889, 8_589_934_592]),
+    Part::Eights(&[4_295_032_832, 7, 12_884_901_889, T]),
     Part::Zeros(480),
     Part::Fours(&[1]),
     Part::Eights(&[0]),
@@ -147,14 +148,14 @@ static PUT: [Part; 13] = [
 static ADDRESS: [Part; 12] = [
     MAGIC,
     Part::Fours(&[1, 1, 0, 1, 1]),
-    Part::Eights(&[8_589_934_594]),
+    Part::Eights(&[T + 2]),
     BUILT,
-    Part::Eights(&[4_295_032_832, 4_294_967_296, 12_884_901_889, 8_589_934_592]),
+    Part::Eights(&[4_295_032_832, F, 12_884_901_889, T]),
     Part::Zeros(480),
     Part::Fours(&[1]),
     Part::Eights(&[0]),
     Part::Bytes(&[0, 2, 1]),
-    Part::Eights(&[4_294_967_296]),
+    Part::Eights(&[F]),
     Part::Fours(&[1, 0]),
     Part::Eights(&[4]),
 ];
@@ -162,10 +163,10 @@ static ADDRESS: [Part; 12] = [
 static WEAK_TOUCHED: [Part; 9] = [
     MAGIC,
     Part::Fours(&[2, 1, 0, 1, 1]),
-    Part::Eights(&[8_589_934_596]),
+    Part::Eights(&[T + 4]),
     BUILT,
-    Part::Eights(&[281_483_566_710_784, 0, 8_589_934_596, 9]),
-    Part::Eights(&[844_424_930_131_969, 8_589_934_592]),
+    Part::Eights(&[281_483_566_710_784, 0, T + 4, 9]),
+    Part::Eights(&[844_424_930_131_969, T]),
     Part::Zeros(464 + 4),
     Part::Fours(&[1, 0]),
     Part::Eights(&[6]),
@@ -175,24 +176,24 @@ static WEAK_TOUCHED: [Part; 9] = [
 static WEAK_LINKED: [Part; 22] = [
     MAGIC,
     Part::Fours(&[2, 1, 1, 2, 1]),
-    Part::Eights(&[8_589_934_596]),
+    Part::Eights(&[T + 4]),
     BUILT,
-    Part::Eights(&[281_483_566_710_784, 8_589_934_656, 8_589_934_596, 9]),
-    Part::Eights(&[844_424_930_131_969, 8_589_934_592]),
+    Part::Eights(&[281_483_566_710_784, T + 64, T + 4, 9]),
+    Part::Eights(&[844_424_930_131_969, T]),
     Part::Zeros(464),
     Part::Fours(&[1]),
     Part::Eights(&[1]),
     Part::Bytes(&[0, 3, 1]),
-    Part::Eights(&[8_589_934_656]),
+    Part::Eights(&[T + 64]),
     BUILT,
-    Part::Eights(&[1_407_379_178_520_576, 8_589_934_592]),
+    Part::Eights(&[1_407_379_178_520_576, T]),
     Part::Zeros(496),
     Part::Fours(&[2]),
     Part::Eights(&[0]),
     Part::Bytes(&[0, 0, 0]),
     Part::Eights(&[1_407_379_178_520_576, 2]),
     Part::Bytes(&[0, 3, 1]),
-    Part::Eights(&[8_589_934_592]),
+    Part::Eights(&[T]),
     // The list of builds: 2 pages, page 1 and page 0.
     Part::Fours(&[2, 1, 0]),
     Part::Eights(&[8]),

@@ -8,7 +8,7 @@ use comp_audit::Dump;
 use comp_journal::Entry;
 use heap_layout::Kind;
 use std::process::Abort;
-use test_support::{At, T, Worked};
+use test_support::{At, F, T, Worked};
 
 static RUNS: [DumpedRun; 11] = [
     // The empty heap, and two mutators that do nothing.
@@ -43,8 +43,8 @@ static RUNS: [DumpedRun; 11] = [
         mutators: 1,
         fresh_pages: 2,
         calls: &[
-            AnsweredCall(0, Call::Alloc, 8_589_934_656),
-            AnsweredCall(0, Call::WriteRef(T + 2, 0, 8_589_934_656), 1),
+            AnsweredCall(0, Call::Alloc, T + 64),
+            AnsweredCall(0, Call::WriteRef(T + 2, 0, T + 64), 1),
         ],
         last_first: false,
         length: 1_129,
@@ -75,8 +75,8 @@ static RUNS: [DumpedRun; 11] = [
         mutators: 1,
         fresh_pages: 0,
         calls: &[
-            AnsweredCall(0, Call::WriteData(T, 0, 4_294_967_296), 0),
-            AnsweredCall(0, Call::ReadData(T, 0), 4_294_967_296),
+            AnsweredCall(0, Call::WriteData(T, 0, F), 0),
+            AnsweredCall(0, Call::ReadData(T, 0), F),
         ],
         last_first: false,
         length: 588,
@@ -133,11 +133,11 @@ static RUNS: [DumpedRun; 11] = [
         mutators: 1,
         fresh_pages: 1,
         calls: &[
-            AnsweredCall(0, Call::AllocWeak, 8_589_934_656),
-            AnsweredCall(0, Call::WriteWeak(T, 0, 8_589_934_656), 1),
-            AnsweredCall(0, Call::WriteWeak(T + 64, 0, 8_589_934_592), 2),
-            AnsweredCall(0, Call::ReadWeak(T, 0), 8_589_934_656),
-            AnsweredCall(0, Call::ReadWeak(T, 1), 8_589_934_596),
+            AnsweredCall(0, Call::AllocWeak, T + 64),
+            AnsweredCall(0, Call::WriteWeak(T, 0, T + 64), 1),
+            AnsweredCall(0, Call::WriteWeak(T + 64, 0, T), 2),
+            AnsweredCall(0, Call::ReadWeak(T, 0), T + 64),
+            AnsweredCall(0, Call::ReadWeak(T, 1), T + 4),
         ],
         last_first: false,
         length: 1_147,
@@ -164,12 +164,12 @@ static RUNS: [DumpedRun; 11] = [
         calls: &[
             AnsweredCall(0, Call::Pages, 3_283),
             AnsweredCall(0, Call::Touch(1_024), 1),
-            AnsweredCall(0, Call::ReadAt(Kind::Reference, T, 65_536), 8_589_934_592),
+            AnsweredCall(0, Call::ReadAt(Kind::Reference, T, 65_536), T),
             AnsweredCall(1, Call::WriteAt(Kind::Data, DATA, 69_999, 77), 0),
             AnsweredCall(1, Call::ReadAt(Kind::Data, DATA, 69_999), 77),
-            AnsweredCall(0, Call::Alloc, 8_590_144_640),
+            AnsweredCall(0, Call::Alloc, T + 210_048),
             AnsweredCall(0, Call::WriteAt(Kind::Weak, WEAK, 69_999, FRESH), 2),
-            AnsweredCall(0, Call::ReadAt(Kind::Weak, WEAK, 69_999), 8_590_144_640),
+            AnsweredCall(0, Call::ReadAt(Kind::Weak, WEAK, 69_999), T + 210_048),
         ],
         last_first: true,
         length: 5_488,
@@ -203,14 +203,14 @@ const STORED: Entry = Entry {
     writer: 0,
     kind: Kind::Reference,
     offset: 3,
-    value: 8_589_934_656,
+    value: T + 64,
 };
 
 const STORED_WORDS: [u64; 64] = [
     4_295_032_832,
     11,
     12_884_901_889,
-    8_589_934_656,
+    T + 64,
     0,
     0,
     0,
@@ -294,12 +294,7 @@ static LINKED_PAGES: [Option<PageParts<'static>>; 3] = [
 /// list of builds has page 1 and page 0.
 pub fn expect_linked(rt: &impl Abort, dump: &Dump<'_>) {
     expect_counts(rt, dump, &[1, 2, 1, 3, 1, 5]);
-    expect_eq(
-        rt,
-        At::new("roots", 0),
-        dump.roots(),
-        [8_589_934_594].as_slice(),
-    );
+    expect_eq(rt, At::new("roots", 0), dump.roots(), [T + 2].as_slice());
     let built = dump.builds().first().expect(rt, "builds");
     expect_eq(
         rt,

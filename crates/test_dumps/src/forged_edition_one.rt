@@ -6,6 +6,7 @@ use crate::expected_reports::{
 };
 use crate::judged_dumps::{JudgedDump, Report, expect_judged};
 use comp_audit::{AuditFault, DumpFault, Verdict};
+use heap_layout::TO_SPACE as T;
 use test_support::{
     FIRST_DATA, HEADER_OFFSET, HEADER_STAMP, LAST_PAGE, LAST_WORD, REFERENCE, REFERENCE_STAMP,
     REFERENCE_VALUE, ROOT, TOTAL, VERSION, Worked,
@@ -21,9 +22,9 @@ const END: usize = 1_129;
 // Reports that no other file expects.
 const UNCLAIMED_2: Report = Ok(Verdict::No(AuditFault::BuildUnclaimed(2)));
 
-const WRONG_LAST: Report = Ok(Verdict::No(AuditFault::WrongWord(8_589_934_655)));
+const WRONG_LAST: Report = Ok(Verdict::No(AuditFault::WrongWord(T + 63)));
 
-const LOOSE: Report = Ok(Verdict::No(AuditFault::LooseReference(8_589_934_595)));
+const LOOSE: Report = Ok(Verdict::No(AuditFault::LooseReference(T + 3)));
 
 // The root is null.
 const NULL_ROOT: Change = Change(ROOT, 8, 8, 0);
@@ -36,9 +37,9 @@ const DATA_12: Change = Change(FIRST_DATA, 8, 8, 12);
 const LAST_1: Change = Change(LAST_WORD, 8, 8, 1);
 
 // A reference into an object, and its entry.
-const INNER: Change = Change(REFERENCE, 8, 8, 8_589_934_593);
+const INNER: Change = Change(REFERENCE, 8, 8, T + 1);
 
-const INNER_VALUE: Change = Change(REFERENCE_VALUE, 8, 8, 8_589_934_593);
+const INNER_VALUE: Change = Change(REFERENCE_VALUE, 8, 8, T + 1);
 
 const LINK_0: Change = Change(REFERENCE_STAMP, 8, 8, 0);
 

@@ -37,13 +37,13 @@ const BUILD: usize = 1_131;
 const TOTAL: usize = 1_139;
 
 // Reports that no other file expects.
-const WRONG_WORD_2: Report = Ok(Verdict::No(AuditFault::WrongWord(8_589_934_594)));
+const WRONG_WORD_2: Report = Ok(Verdict::No(AuditFault::WrongWord(T + 2)));
 
-const WRONG_WORD_66: Report = Ok(Verdict::No(AuditFault::WrongWord(8_589_934_658)));
+const WRONG_WORD_66: Report = Ok(Verdict::No(AuditFault::WrongWord(T + 66)));
 
-const LOOSE_1: Report = Ok(Verdict::No(AuditFault::LooseReference(8_589_934_593)));
+const LOOSE_1: Report = Ok(Verdict::No(AuditFault::LooseReference(T + 1)));
 
-const LOOSE_65: Report = Ok(Verdict::No(AuditFault::LooseReference(8_589_934_657)));
+const LOOSE_65: Report = Ok(Verdict::No(AuditFault::LooseReference(T + 65)));
 
 // For the compacted three objects of edition two.
 static WEAK_FORGED: [JudgedDump; 49] = [

@@ -6,7 +6,7 @@ use comp_audit::{AuditFault, Verdict};
 use test_support::{T, VERSION, Worked};
 
 // Reports on the dump of the heap with many fields.
-const WRONG_DATA: Report = Ok(Verdict::No(AuditFault::WrongWord(8_590_074_596)));
+const WRONG_DATA: Report = Ok(Verdict::No(AuditFault::WrongWord(T + 140_004)));
 
 const BAD_DATA: Report = Ok(Verdict::No(AuditFault::BadEntry(2_187, 0)));
 
@@ -14,7 +14,7 @@ const BAD_WEAK: Report = Ok(Verdict::No(AuditFault::BadEntry(3_281, 0)));
 
 const BAD_FRESH: Report = Ok(Verdict::No(AuditFault::BadEntry(3_282, 0)));
 
-const LOOSE_WEAK: Report = Ok(Verdict::No(AuditFault::LooseReference(8_590_144_597)));
+const LOOSE_WEAK: Report = Ok(Verdict::No(AuditFault::LooseReference(T + 210_005)));
 
 // The positions of the last weak word and of the value of its entry.
 const LAST_WEAK: usize = 4_553;
@@ -38,7 +38,7 @@ static MANY_FORGED: [JudgedDump; 27] = [
     JudgedDump(
         Whole::ManyWritten,
         &[Change(1_085, 8, 8, 0)],
-        Ok(Verdict::No(AuditFault::WrongWord(8_590_000_129))),
+        Ok(Verdict::No(AuditFault::WrongWord(T + 65_537))),
     ),
     // The last data word: as it slid, and another one by its entry.
     JudgedDump(Whole::ManyWritten, &[Change(3_044, 8, 8, 13)], WRONG_DATA),
@@ -57,7 +57,7 @@ static MANY_FORGED: [JudgedDump; 27] = [
     JudgedDump(
         Whole::ManyWritten,
         &[Change(4_911, 1, 1, 20)],
-        Ok(Verdict::No(AuditFault::WrongWord(8_590_144_596))),
+        Ok(Verdict::No(AuditFault::WrongWord(T + 210_004))),
     ),
     JudgedDump(Whole::ManyWritten, &[Change(4_911, 1, 1, 22)], BAD_WEAK),
     // It leads to each object, and into objects.

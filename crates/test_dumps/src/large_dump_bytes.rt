@@ -18,10 +18,10 @@ const BUILT: Part = Part::Bytes(&[1]);
 pub static MIXED_TOUCHED: [Part; 9] = [
     Part::Bytes(b"COMPDUMP"),
     Part::Fours(&[3, 1, 0, 1, 1]),
-    Part::Eights(&[8_589_934_596]),
+    Part::Eights(&[T + 4]),
     BUILT,
-    Part::Eights(&[281_483_566_710_784, 0, 8_589_934_596, 9]),
-    Part::Eights(&[844_424_930_131_969, 8_589_934_592]),
+    Part::Eights(&[281_483_566_710_784, 0, T + 4, 9]),
+    Part::Eights(&[844_424_930_131_969, T]),
     Part::Zeros(464 + 4),
     Part::Fours(&[1, 0]),
     Part::Eights(&[6]),

@@ -2,7 +2,7 @@
 use crate::expected::expect_eq;
 use heap_layout::{Edition, LayoutFault};
 use std::process::Abort;
-use test_support::{At, F, THREE, WEAK, judged};
+use test_support::{At, F, T, THREE, WEAK, judged};
 
 // The words, the marks and the roots of a heap, and its first fault, or `None` if it has none.
 type JudgedHeap = (
@@ -107,8 +107,8 @@ static CHANGED: [ChangedWeak; 29] = [
     (&[(1, 1)], BOTH, Some(LayoutFault::BadWeak(1))),
     (&[(1, F - 1)], BOTH, Some(LayoutFault::BadWeak(1))),
     (&[(1, F + 1_048_576)], BOTH, Some(LayoutFault::BadWeak(1))),
-    (&[(1, 8_589_934_592)], BOTH, Some(LayoutFault::BadWeak(1))),
-    (&[(1, 8_589_934_596)], BOTH, Some(LayoutFault::BadWeak(1))),
+    (&[(1, T)], BOTH, Some(LayoutFault::BadWeak(1))),
+    (&[(1, T + 4)], BOTH, Some(LayoutFault::BadWeak(1))),
     (&[(1, u64::MAX)], BOTH, Some(LayoutFault::BadWeak(1))),
     // The second weak word, and both.
     (&[(2, F + 2)], BOTH, Some(LayoutFault::BadWeak(2))),

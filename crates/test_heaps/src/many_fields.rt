@@ -46,12 +46,12 @@ static MANY_FIELDS: [PlannedHeap; 1] = [PlannedHeap {
     answers: &[
         PlanAnswer::Counts(210_007, 3_282),
         PlanAnswer::LiveWords(210_007),
-        PlanAnswer::Roots(&[8_589_934_592, 0, 8_590_074_597]),
+        PlanAnswer::Roots(&[T, 0, T + 140_005]),
         PlanAnswer::Forward(F, None),
         PlanAnswer::Forward(F + 1, Some(T)),
         PlanAnswer::Forward(F + 2, None),
-        PlanAnswer::Forward(DATA, Some(8_590_004_595)),
-        PlanAnswer::Forward(WEAK, Some(8_590_074_597)),
+        PlanAnswer::Forward(DATA, Some(T + 70_003)),
+        PlanAnswer::Forward(WEAK, Some(T + 140_005)),
         PlanAnswer::Forward(F + 210_008, None),
         PlanAnswer::Place(0, None),
         PlanAnswer::Place(1, Some(0)),
@@ -83,11 +83,11 @@ static MANY_FIELDS: [PlannedHeap; 1] = [PlannedHeap {
         PlanAnswer::Page(0, &[MANY_REFERENCES, SLID_DATA]),
         // The page on which the first object ends and the second one begins.
         PlanAnswer::Word(1_093, 47, 0),
-        PlanAnswer::Word(1_093, 48, 8_590_004_595),
+        PlanAnswer::Word(1_093, 48, T + 70_003),
         PlanAnswer::Word(1_093, 49, 5),
         PlanAnswer::Word(1_093, 50, 6),
         PlanAnswer::Word(1_093, 51, MANY_DATA),
-        PlanAnswer::Word(1_093, 52, 8_589_934_592),
+        PlanAnswer::Word(1_093, 52, T),
         PlanAnswer::Word(1_093, 53, 10),
         PlanAnswer::Word(1_093, 54, 0),
         // Data words number 65,535 and number 65,536.
@@ -98,7 +98,7 @@ static MANY_FIELDS: [PlannedHeap; 1] = [PlannedHeap {
         PlanAnswer::Word(2_187, 37, MANY_WEAK),
         PlanAnswer::Word(2_187, 38, 0),
         // Weak words number 65,535 and number 65,536.
-        PlanAnswer::Word(3_211, 37, 8_590_004_595),
+        PlanAnswer::Word(3_211, 37, T + 70_003),
         PlanAnswer::Word(3_211, 38, 0),
         PlanAnswer::Kinds(3_281, &LAST_KINDS),
         PlanAnswer::Kinds(500, &[Kind::Reference; 64]),
@@ -118,17 +118,10 @@ static OF_EDITION_TWO: [PlannedHeap; 1] = [PlannedHeap {
     heap: Worked::Mixed,
     answers: &[
         PlanAnswer::Counts(6, 1),
-        PlanAnswer::Roots(&[8_589_934_596]),
+        PlanAnswer::Roots(&[T + 4]),
         PlanAnswer::Page(
             0,
-            &[
-                281_483_566_710_784,
-                0,
-                8_589_934_596,
-                9,
-                844_424_930_131_969,
-                8_589_934_592,
-            ],
+            &[281_483_566_710_784, 0, T + 4, 9, 844_424_930_131_969, T],
         ),
         PlanAnswer::Shape(T, Some((0, 2, 1, 1))),
         PlanAnswer::Shape(T + 4, Some((1, 0, 0, 3))),

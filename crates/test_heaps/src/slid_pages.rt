@@ -6,7 +6,7 @@ use std::process::Abort;
 use test_support::{At, Counting, F, T, Worked, plan_of};
 
 // The words of the three objects after the slide. The one page begins with them.
-const SLID_THREE: [u64; 4] = [4_295_032_832, 11, 12_884_901_889, 8_589_934_592];
+const SLID_THREE: [u64; 4] = [4_295_032_832, 11, 12_884_901_889, T];
 
 // The kinds of these words.
 const THREE_KINDS: [Kind; 4] = [Kind::Header, Kind::Data, Kind::Header, Kind::Reference];
@@ -16,14 +16,7 @@ const LAST: u64 = F + 5;
 
 // The words of the three objects of edition two after the slide. The first weak word is null, since its object was not
 // marked.
-const SLID_WEAK: [u64; 6] = [
-    281_483_566_710_784,
-    0,
-    8_589_934_596,
-    9,
-    844_424_930_131_969,
-    8_589_934_592,
-];
+const SLID_WEAK: [u64; 6] = [281_483_566_710_784, 0, T + 4, 9, 844_424_930_131_969, T];
 
 // The kinds of these words.
 const WEAK_KINDS: [Kind; 6] = [
@@ -42,7 +35,7 @@ static OVER_A_GAP: [PlannedHeap; 2] = [
         heap: Worked::Three,
         answers: &[
             PlanAnswer::Counts(4, 1),
-            PlanAnswer::Forward(LAST, Some(8_589_934_594)),
+            PlanAnswer::Forward(LAST, Some(T + 2)),
             PlanAnswer::Forward(F, Some(T)),
             PlanAnswer::Forward(0, Some(0)),
             PlanAnswer::Forward(F + 1, None),
@@ -52,7 +45,7 @@ static OVER_A_GAP: [PlannedHeap; 2] = [
             PlanAnswer::Forward(1, None),
             PlanAnswer::Forward(T, None),
             PlanAnswer::Forward(u64::MAX, None),
-            PlanAnswer::Roots(&[8_589_934_594]),
+            PlanAnswer::Roots(&[T + 2]),
             PlanAnswer::Page(0, &SLID_THREE),
             PlanAnswer::Kinds(0, &THREE_KINDS),
         ],
@@ -64,11 +57,11 @@ static OVER_A_GAP: [PlannedHeap; 2] = [
             PlanAnswer::Counts(6, 1),
             PlanAnswer::First(0, Some(0)),
             PlanAnswer::First(1, None),
-            PlanAnswer::Forward(LAST, Some(8_589_934_596)),
+            PlanAnswer::Forward(LAST, Some(T + 4)),
             PlanAnswer::Forward(F, Some(T)),
             PlanAnswer::Forward(F + 4, None),
             PlanAnswer::Forward(F + 1, None),
-            PlanAnswer::Roots(&[8_589_934_596]),
+            PlanAnswer::Roots(&[T + 4]),
             PlanAnswer::Page(0, &SLID_WEAK),
             PlanAnswer::Kinds(0, &WEAK_KINDS),
             PlanAnswer::Shape(T, Some((0, 2, 1, 1))),

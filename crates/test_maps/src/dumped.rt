@@ -2,7 +2,7 @@
 use crate::expected::{expect_eq, expect_so};
 use crate::pictures::{count_of, expect_defined, picture_of};
 use comp_dump::{AuditFault, read_dump};
-use heap_layout::Counted;
+use heap_layout::{Counted, TO_SPACE as T};
 use heap_map::DumpView;
 use std::alloc::Global;
 use std::process::Abort;
@@ -65,7 +65,7 @@ fn a_new_object_stands_on_its_fresh_page(rt: HostRuntime) {
 fn a_fault_is_marked_and_told(rt: HostRuntime) {
     let alloc = rt.alloc();
     let bytes = bytes_in(alloc, Content::FreshDump).expect(&rt, "the bytes");
-    let fault = AuditFault::WrongWord(8_589_934_593);
+    let fault = AuditFault::WrongWord(T + 1);
     let picture = pictured(&rt, alloc, &bytes, Some(fault), "a < b & c\nd > e");
     let text = picture.as_str();
     expect_so(
@@ -83,7 +83,7 @@ fn a_fault_is_marked_and_told(rt: HostRuntime) {
 const FRESH: [Part; 7] = [
     Part::Bytes(b"COMPDUMP"),
     Part::Numbers(&[1, 1, 100, 101, 1]),
-    Part::Words(&[8_589_934_594]),
+    Part::Words(&[T + 2]),
     Part::Bytes(&[0; 101]),
     Part::Numbers(&[1]),
     Part::Numbers(&[3]),

@@ -2,6 +2,7 @@
 use crate::dumped::pictured;
 use crate::expected::{expect_eq, expect_so};
 use crate::pictures::{count_of, expect_defined};
+use heap_layout::TO_SPACE as T;
 use std::alloc::{AllocError, Global};
 use test_support::{Part, bytes_of};
 
@@ -10,10 +11,10 @@ use test_support::{Part, bytes_of};
 const TWO_MUTATORS: [Part; 24] = [
     Part::Bytes(b"COMPDUMP"),
     Part::Numbers(&[1, 2, 2, 3, 1]),
-    Part::Words(&[8_589_934_594]),
+    Part::Words(&[T + 2]),
     // page 0, without an entry
     Part::Bytes(&[1]),
-    Part::Words(&[4_295_032_832, 11, 12_884_901_889, 8_589_934_592]),
+    Part::Words(&[4_295_032_832, 11, 12_884_901_889, T]),
     Part::Words(&[0; 60]),
     Part::Numbers(&[0]),
     // page 1 and its two entries
@@ -72,7 +73,7 @@ fn each_page_has_its_mutator_and_its_new_objects(rt: HostRuntime) {
 const FULL_PAGE: [Part; 17] = [
     Part::Bytes(b"COMPDUMP"),
     Part::Numbers(&[1, 2, 100, 101, 1]),
-    Part::Words(&[8_589_934_594]),
+    Part::Words(&[T + 2]),
     Part::Bytes(&[0]),
     // page 1 and its entry, an object of 64 words
     Part::Bytes(&[1]),
@@ -123,10 +124,10 @@ fn a_full_page_is_all_live(rt: HostRuntime) {
 const OVERLAPPED: [Part; 7] = [
     Part::Bytes(b"COMPDUMP"),
     Part::Numbers(&[1, 1, 1, 2, 1]),
-    Part::Words(&[8_589_934_594]),
+    Part::Words(&[T + 2]),
     Part::Bytes(&[0]),
     Part::Bytes(&[1]),
-    Part::Words(&[8_589_934_592; 64]),
+    Part::Words(&[T; 64]),
     Part::Numbers(&[1_024]),
 ];
 
@@ -166,7 +167,7 @@ fn of_objects_that_overlap_the_first_is_drawn(rt: HostRuntime) {
 const MANY_ROOTS: [Part; 6] = [
     Part::Bytes(b"COMPDUMP"),
     Part::Numbers(&[1, 1, 0, 1, 401]),
-    Part::Words(&[8_589_934_594; 401]),
+    Part::Words(&[T + 2; 401]),
     Part::Bytes(&[0]),
     Part::Numbers(&[0]),
     Part::Words(&[4]),

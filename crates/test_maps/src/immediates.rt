@@ -1,7 +1,7 @@
 //! The picture of a heap with immediates: nothing is drawn where they would lead.
 use crate::expected::expect_eq;
 use crate::pictures::{around_shapes, count_of, picture_of};
-use heap_layout::{Edition, FIRST_IMMEDIATE, FROM_SPACE, Header, MarkedHeap};
+use heap_layout::{Edition, FIRST_IMMEDIATE, FROM_SPACE, Header, MarkedHeap, TO_SPACE};
 use page_plan::Plan;
 use std::alloc::Global;
 
@@ -11,7 +11,7 @@ fn heap_of_two_immediates(alloc: Global) -> Option<MarkedHeap> {
     let header = Header::new_mixed(2, 0, 0, 7).word();
     let words = vec![in alloc; header, FIRST_IMMEDIATE + 5, FROM_SPACE].ok()?;
     let marks = vec![in alloc; 0u32].ok()?;
-    let roots = vec![in alloc; FROM_SPACE, FIRST_IMMEDIATE + 8_589_934_592].ok()?;
+    let roots = vec![in alloc; FROM_SPACE, FIRST_IMMEDIATE + TO_SPACE].ok()?;
     MarkedHeap::from_parts_of(Edition::Four, words, marks, roots).ok()
 }
 

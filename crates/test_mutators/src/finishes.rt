@@ -27,9 +27,9 @@ fn a_finish_with_a_mutator_missing_hands_back_the_others(rt: HostRuntime) {
 }
 
 // An object of 3 words and one of 5.
-const THREE: MutatorStep = MutatorStep::Alloc(0, 2, 0, Ok(8_589_934_656));
+const THREE: MutatorStep = MutatorStep::Alloc(0, 2, 0, Ok(T + 64));
 
-const FIVE: MutatorStep = MutatorStep::Alloc(1, 3, 0, Ok(8_589_934_720));
+const FIVE: MutatorStep = MutatorStep::Alloc(1, 3, 0, Ok(T + 128));
 
 // 10 words slid and 8 were made. Of three pages the first was never touched.
 const EIGHTEEN: Ending = Ending {
@@ -72,14 +72,14 @@ static FULL: MutatedHeap = MutatedHeap {
     mutators: 2,
     fresh_pages: 4,
     steps: &[
-        MutatorStep::Alloc(0, 63, 0, Ok(8_589_934_656)),
-        MutatorStep::Alloc(0, 63, 0, Ok(8_589_934_784)),
+        MutatorStep::Alloc(0, 63, 0, Ok(T + 64)),
+        MutatorStep::Alloc(0, 63, 0, Ok(T + 192)),
         MutatorStep::Unposted(128),
         MutatorStep::Settle,
         MutatorStep::Unposted(0),
         MutatorStep::By(1),
-        MutatorStep::Alloc(0, 63, 0, Ok(8_589_934_720)),
-        MutatorStep::Alloc(0, 63, 0, Ok(8_589_934_848)),
+        MutatorStep::Alloc(0, 63, 0, Ok(T + 128)),
+        MutatorStep::Alloc(0, 63, 0, Ok(T + 256)),
         MutatorStep::Unposted(128),
         MutatorStep::Settle,
         MutatorStep::Unposted(0),

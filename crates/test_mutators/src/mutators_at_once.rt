@@ -64,7 +64,7 @@ pub fn at_once<L: Named + Send + Sync, B: Builder, R: Abort + Threads + Wait + S
 }
 
 // The root of the heap of the three objects.
-const ROOTS: &[u64] = &[8_589_934_594];
+const ROOTS: &[u64] = &[T + 2];
 
 // A thread writes 7 into the first data word of the first object, and reads it.
 const SEVEN: [MutatorStep; 2] = [
@@ -85,7 +85,7 @@ static ONE_THEN_OTHER: MutatedHeap = MutatedHeap {
         MutatorStep::ReadData(T, 0, Ok(7)),
         MutatorStep::Page(
             0,
-            &[4_295_032_832, 7, 12_884_901_889, 8_589_934_592],
+            &[4_295_032_832, 7, 12_884_901_889, T],
             &[Entry {
                 stamp: 0,
                 writer: 0,

@@ -4,7 +4,7 @@ use crate::mutated_heaps::{BuiltBy, MutatedHeap, play_heap};
 use crate::mutator_steps::MutatorStep;
 use comp_journal::Entry;
 use comp_mutator::Refusal;
-use heap_layout::Kind;
+use heap_layout::{Kind, TO_SPACE as T};
 use test_support::Worked;
 
 // Objects of one mutator until its two fresh pages are full. At the end 1 word slid, and 64 + 1 + 63 words were made.
@@ -15,18 +15,18 @@ static FULL_PAGES: MutatedHeap = MutatedHeap {
     mutators: 1,
     fresh_pages: 2,
     steps: &[
-        MutatorStep::Alloc(0, 63, 0, Ok(8_589_934_656)),
-        MutatorStep::Alloc(0, 0, 5, Ok(8_589_934_720)),
+        MutatorStep::Alloc(0, 63, 0, Ok(T + 64)),
+        MutatorStep::Alloc(0, 0, 5, Ok(T + 128)),
         MutatorStep::Alloc(0, 64, 0, Err(Refusal::ObjectTooLarge)),
         MutatorStep::Alloc(0, 63, 0, Err(Refusal::OutOfPages)),
-        MutatorStep::Alloc(0, 62, 0, Ok(8_589_934_721)),
+        MutatorStep::Alloc(0, 62, 0, Ok(T + 129)),
         MutatorStep::Alloc(0, 0, 0, Err(Refusal::OutOfPages)),
         MutatorStep::Alloc(u16::MAX, u16::MAX, u32::MAX, Err(Refusal::ObjectTooLarge)),
         MutatorStep::Unposted(128),
     ],
     end: End::Contents(Ending {
         live_words: 129,
-        roots: &[8_589_934_592],
+        roots: &[T],
         pages: &[false, true, true],
         entries: 3,
         builds: Some((&[1, 2], &[])),
@@ -52,7 +52,7 @@ const ENTRIES: [Entry; 3] = [
         writer: 0,
         kind: Kind::Reference,
         offset: 1,
-        value: 8_589_934_594,
+        value: T + 2,
     },
     Entry {
         stamp: 3,
@@ -73,14 +73,14 @@ static LINKED_AND_CLEARED: MutatedHeap = MutatedHeap {
     mutators: 2,
     fresh_pages: 2,
     steps: &[
-        MutatorStep::Alloc(1, 0, 4, Ok(8_589_934_656)),
-        MutatorStep::WriteRef(8_589_934_656, 0, 8_589_934_594, Ok(1)),
-        MutatorStep::WriteRef(8_589_934_594, 0, 8_589_934_656, Ok(2)),
+        MutatorStep::Alloc(1, 0, 4, Ok(T + 64)),
+        MutatorStep::WriteRef(T + 64, 0, T + 2, Ok(1)),
+        MutatorStep::WriteRef(T + 2, 0, T + 64, Ok(2)),
         MutatorStep::By(1),
-        MutatorStep::ReadRef(8_589_934_656, 0, Ok(8_589_934_594)),
-        MutatorStep::ReadRef(8_589_934_594, 0, Ok(8_589_934_656)),
-        MutatorStep::WriteRef(8_589_934_656, 0, 0, Ok(3)),
-        MutatorStep::Alloc(0, 0, 0, Ok(8_589_934_720)),
+        MutatorStep::ReadRef(T + 64, 0, Ok(T + 2)),
+        MutatorStep::ReadRef(T + 2, 0, Ok(T + 64)),
+        MutatorStep::WriteRef(T + 64, 0, 0, Ok(3)),
+        MutatorStep::Alloc(0, 0, 0, Ok(T + 128)),
         MutatorStep::Builds(&[2]),
         MutatorStep::Unposted(1),
         MutatorStep::By(0),
@@ -90,7 +90,7 @@ static LINKED_AND_CLEARED: MutatedHeap = MutatedHeap {
     ],
     end: End::Contents(Ending {
         live_words: 7,
-        roots: &[8_589_934_594],
+        roots: &[T + 2],
         pages: &[true, true, true],
         entries: 5,
         builds: Some((&[1, 0], &[2])),

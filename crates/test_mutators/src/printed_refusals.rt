@@ -3,6 +3,7 @@ use crate::expected::expect_eq;
 use comp_journal::JournalRefusal;
 use comp_ledger::LedgerFault;
 use comp_mutator::{FinishFault, FlipFault, Refusal};
+use heap_layout::TO_SPACE as T;
 use page_cells::CellRefusal;
 use std::alloc::Global;
 use std::fmt::Display;
@@ -51,10 +52,7 @@ fn faults_of_ledgers_are_printed_with_number_and_name(rt: HostRuntime) {
 
 static OF_MUTATORS: [(Refusal, &str); 9] = [
     (Refusal::Null, "M1 Null"),
-    (
-        Refusal::NotAStart(8_589_934_593),
-        "M2 NotAStart(8589934593)",
-    ),
+    (Refusal::NotAStart(T + 1), "M2 NotAStart(8589934593)"),
     (Refusal::NoSuchField, "M3 NoSuchField"),
     (Refusal::ObjectTooLarge, "M4 ObjectTooLarge"),
     (Refusal::OutOfPages, "M5 OutOfPages"),

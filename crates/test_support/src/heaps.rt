@@ -4,26 +4,18 @@ pub use heap_layout::{FROM_SPACE as F, TO_SPACE as T};
 use std::alloc::{AllocError, Global};
 
 /// Three objects. The first and the last are marked.
-pub const THREE: [u64; 7] = [
-    4_295_032_832,
-    11,
-    8_590_000_129,
-    0,
-    22,
-    12_884_901_889,
-    4_294_967_296,
-];
+pub const THREE: [u64; 7] = [4_295_032_832, 11, 8_590_000_129, 0, 22, 12_884_901_889, F];
 
 /// Three objects of edition two. The first and the last are marked. The first has two weak words, which name the other
 /// two objects, and a data word; the last refers to the first.
 pub const WEAK: [u64; 7] = [
     281_483_566_710_784,
-    4_294_967_300,
-    4_294_967_301,
+    F + 4,
+    F + 5,
     9,
     562_949_953_421_312,
     844_424_930_131_969,
-    4_294_967_296,
+    F,
 ];
 
 /// The heap of these parts, or the fault that refuses it.

@@ -1,5 +1,6 @@
 //! Images of worked heaps and dumps of them.
 use crate::parts::Part;
+use heap_layout::{FROM_SPACE as F, TO_SPACE as T};
 
 /// All pages of the heap of twenty pages.
 pub const ALL: [u32; 20] = [
@@ -24,7 +25,7 @@ pub const THREE_IMAGE: [Part; 5] = [
     Part::Numbers(&[1, 7, 2, 1]),
     THREE_OBJECTS,
     Part::Numbers(&[0, 5]),
-    Part::Words(&[4_294_967_301]),
+    Part::Words(&[F + 5]),
 ];
 
 /// What a collection leaves of the three objects: the first, and the last where the second was.
@@ -33,7 +34,7 @@ pub const COLLECTED_IMAGE: [Part; 5] = [
     Part::Numbers(&[1, 4, 2, 1]),
     COLLECTED_OBJECTS,
     Part::Numbers(&[0, 2]),
-    Part::Words(&[4_294_967_298]),
+    Part::Words(&[F + 2]),
 ];
 
 /// The next heap of the three objects after an empty run without fresh pages: the same on a whole page.
@@ -43,11 +44,11 @@ pub const FILLED_IMAGE: [Part; 6] = [
     COLLECTED_OBJECTS,
     Part::Words(&[0; 60]),
     Part::Numbers(&[0, 2]),
-    Part::Words(&[4_294_967_298]),
+    Part::Words(&[F + 2]),
 ];
 
 // The words of the first object and of the last, as a collection leaves them.
-const COLLECTED_OBJECTS: Part = Part::Words(&[4_295_032_832, 11, 12_884_901_889, 4_294_967_296]);
+const COLLECTED_OBJECTS: Part = Part::Words(&[4_295_032_832, 11, 12_884_901_889, F]);
 
 /// The words of the three objects.
 pub const THREE_OBJECTS: Part = Part::Words(&[
@@ -57,22 +58,22 @@ pub const THREE_OBJECTS: Part = Part::Words(&[
     0,
     22,
     12_884_901_889,
-    4_294_967_296,
+    F,
 ]);
 
 /// The dump after the run that makes a new object. Its one mutator built page 1, then page 0, and never page 2.
 pub const FRESH_DUMP: [Part; 19] = [
     Part::Bytes(b"COMPDUMP"),
     Part::Numbers(&[1, 1, 2, 3, 1]),
-    Part::Words(&[8_589_934_594]),
+    Part::Words(&[T + 2]),
     // page 0 and its entry
     Part::Bytes(&[1]),
-    Part::Words(&[4_295_032_832, 11, 12_884_901_889, 8_589_934_656]),
+    Part::Words(&[4_295_032_832, 11, 12_884_901_889, T + 64]),
     Part::Words(&[0; 60]),
     Part::Numbers(&[1]),
     Part::Words(&[1]),
     Part::Bytes(&[0, 1, 3]),
-    Part::Words(&[8_589_934_656]),
+    Part::Words(&[T + 64]),
     // page 1 and its entry
     Part::Bytes(&[1]),
     Part::Words(&[0; 64]),
@@ -94,41 +95,34 @@ pub const WEAK_IMAGE: [Part; 5] = [
     Part::Numbers(&[2, 7, 2, 1]),
     Part::Words(&[
         281_483_566_710_784,
-        4_294_967_300,
-        4_294_967_301,
+        F + 4,
+        F + 5,
         9,
         562_949_953_421_312,
         844_424_930_131_969,
-        4_294_967_296,
+        F,
     ]),
     Part::Numbers(&[0, 5]),
-    Part::Words(&[4_294_967_301]),
+    Part::Words(&[F + 5]),
 ];
 
 /// What a collection leaves of these objects. The weak word that referred to the second one is null.
 pub const COLLECTED_WEAK_IMAGE: [Part; 5] = [
     Part::Bytes(b"COMPHEAP"),
     Part::Numbers(&[2, 6, 2, 1]),
-    Part::Words(&[
-        281_483_566_710_784,
-        0,
-        4_294_967_300,
-        9,
-        844_424_930_131_969,
-        4_294_967_296,
-    ]),
+    Part::Words(&[281_483_566_710_784, 0, F + 4, 9, 844_424_930_131_969, F]),
     Part::Numbers(&[0, 4]),
-    Part::Words(&[4_294_967_300]),
+    Part::Words(&[F + 4]),
 ];
 
 /// The dump of these objects after a sweep by one worker.
 pub const WEAK_SWEPT_DUMP: [Part; 9] = [
     Part::Bytes(b"COMPDUMP"),
     Part::Numbers(&[2, 1, 0, 1, 1]),
-    Part::Words(&[8_589_934_596]),
+    Part::Words(&[T + 4]),
     Part::Bytes(&[1]),
-    Part::Words(&[281_483_566_710_784, 0, 8_589_934_596, 9]),
-    Part::Words(&[844_424_930_131_969, 8_589_934_592]),
+    Part::Words(&[281_483_566_710_784, 0, T + 4, 9]),
+    Part::Words(&[844_424_930_131_969, T]),
     Part::Words(&[0; 58]),
     Part::Numbers(&[0, 1, 0]),
     Part::Words(&[6]),
@@ -140,15 +134,15 @@ pub const WEAK_SWEPT_DUMP: [Part; 9] = [
 pub const WEAK_DUMP: [Part; 20] = [
     Part::Bytes(b"COMPDUMP"),
     Part::Numbers(&[2, 1, 1, 2, 1]),
-    Part::Words(&[8_589_934_596]),
+    Part::Words(&[T + 4]),
     Part::Bytes(&[1]),
-    Part::Words(&[281_483_566_710_784, 8_589_934_656, 8_589_934_596, 9]),
-    Part::Words(&[844_424_930_131_969, 8_589_934_592]),
+    Part::Words(&[281_483_566_710_784, T + 64, T + 4, 9]),
+    Part::Words(&[844_424_930_131_969, T]),
     Part::Words(&[0; 58]),
     Part::Numbers(&[1]),
     Part::Words(&[1]),
     Part::Bytes(&[0, 3, 1]),
-    Part::Words(&[8_589_934_656]),
+    Part::Words(&[T + 64]),
     Part::Bytes(&[1]),
     Part::Words(&[1_407_379_178_520_576]),
     Part::Words(&[0; 63]),
@@ -168,15 +162,15 @@ pub const IMMEDIATES_IMAGE: [Part; 5] = [
     Part::Numbers(&[4, 7, 2, 2]),
     Part::Words(&[
         281_483_566_710_784,
-        4_294_967_300,
+        F + 4,
         9_223_372_041_149_743_104,
         9,
         562_949_953_421_312,
         844_424_930_131_969,
-        4_294_967_296,
+        F,
     ]),
     Part::Numbers(&[0, 5]),
-    Part::Words(&[4_294_967_301, 9_223_372_036_854_775_813]),
+    Part::Words(&[F + 5, 9_223_372_036_854_775_813]),
 ];
 
 /// What a collection leaves of these objects: the weak word that referred to the second one is null, and the immediates
@@ -190,17 +184,17 @@ pub const COLLECTED_IMMEDIATES_IMAGE: [Part; 5] = [
         9_223_372_041_149_743_104,
         9,
         844_424_930_131_969,
-        4_294_967_296,
+        F,
     ]),
     Part::Numbers(&[0, 4]),
-    Part::Words(&[4_294_967_300, 9_223_372_036_854_775_813]),
+    Part::Words(&[F + 4, 9_223_372_036_854_775_813]),
 ];
 
 /// The dump after the run that writes immediates into a reference and a weak word of these objects.
 pub const IMMEDIATES_DUMP: [Part; 14] = [
     Part::Bytes(b"COMPDUMP"),
     Part::Numbers(&[4, 1, 0, 1, 2]),
-    Part::Words(&[8_589_934_596, 9_223_372_036_854_775_813]),
+    Part::Words(&[T + 4, 9_223_372_036_854_775_813]),
     Part::Bytes(&[1]),
     Part::Words(&[
         281_483_566_710_784,
@@ -226,7 +220,7 @@ pub const MARKED_IMAGE: [Part; 5] = [
     Part::Numbers(&[1, 7, 3, 1]),
     THREE_OBJECTS,
     Part::Numbers(&[0, 2, 5]),
-    Part::Words(&[4_294_967_301]),
+    Part::Words(&[F + 5]),
 ];
 
 /// The image of the three objects with a root that refers to none of them.
@@ -235,7 +229,7 @@ pub const BAD_ROOT_IMAGE: [Part; 5] = [
     Part::Numbers(&[1, 7, 2, 1]),
     THREE_OBJECTS,
     Part::Numbers(&[0, 5]),
-    Part::Words(&[4_294_967_297]),
+    Part::Words(&[F + 1]),
 ];
 
 /// What a collection left of the three objects that moved them backwards: the last is at 0, the second at 3 and the
@@ -244,10 +238,10 @@ pub const MOVED: [Part; 5] = [
     Part::Bytes(b"COMPMOVE"),
     Part::Numbers(&[1, 3, 1, 9]),
     Part::Numbers(&[7, 3, 0]),
-    Part::Words(&[8_589_934_592]),
+    Part::Words(&[T]),
     Part::Words(&[
         12_884_901_889,
-        8_589_934_599,
+        T + 7,
         77,
         8_590_000_129,
         0,
@@ -263,22 +257,15 @@ pub const WEAK_MOVED: [Part; 5] = [
     Part::Bytes(b"COMPMOVE"),
     Part::Numbers(&[2, 2, 1, 6]),
     Part::Numbers(&[2, 0]),
-    Part::Words(&[8_589_934_592]),
-    Part::Words(&[
-        844_424_930_131_969,
-        8_589_934_594,
-        281_483_566_710_784,
-        0,
-        8_589_934_592,
-        9,
-    ]),
+    Part::Words(&[T]),
+    Part::Words(&[844_424_930_131_969, T + 2, 281_483_566_710_784, 0, T, 9]),
 ];
 
 /// A dump of the three objects of which no page was built: 49 bytes.
 pub const UNBUILT_DUMP: [Part; 6] = [
     Part::Bytes(b"COMPDUMP"),
     Part::Numbers(&[1, 1, 0, 1, 1]),
-    Part::Words(&[8_589_934_594]),
+    Part::Words(&[T + 2]),
     Part::Bytes(&[0]),
     Part::Numbers(&[0]),
     Part::Words(&[4]),
@@ -288,7 +275,7 @@ pub const UNBUILT_DUMP: [Part; 6] = [
 pub const THREE_WORDS: [Part; 4] = [
     Part::Bytes(b"COMPWORD"),
     Part::Numbers(&[1, 4, 1]),
-    Part::Words(&[8_589_934_594]),
+    Part::Words(&[T + 2]),
     SLID_OBJECTS,
 ];
 
@@ -296,25 +283,18 @@ pub const THREE_WORDS: [Part; 4] = [
 pub const LONGER_WORDS: [Part; 5] = [
     Part::Bytes(b"COMPWORD"),
     Part::Numbers(&[1, 5, 1]),
-    Part::Words(&[8_589_934_594]),
+    Part::Words(&[T + 2]),
     SLID_OBJECTS,
     Part::Words(&[0]),
 ];
 
 // The words of the two marked objects after sliding.
-const SLID_OBJECTS: Part = Part::Words(&[4_295_032_832, 11, 12_884_901_889, 8_589_934_592]);
+const SLID_OBJECTS: Part = Part::Words(&[4_295_032_832, 11, 12_884_901_889, T]);
 
 /// The words of the three objects of edition two after sliding, in edition three, with their root: 76 bytes.
 pub const LARGE_WORDS: [Part; 4] = [
     Part::Bytes(b"COMPWORD"),
     Part::Numbers(&[3, 6, 1]),
-    Part::Words(&[8_589_934_596]),
-    Part::Words(&[
-        281_483_566_710_784,
-        0,
-        8_589_934_596,
-        9,
-        844_424_930_131_969,
-        8_589_934_592,
-    ]),
+    Part::Words(&[T + 4]),
+    Part::Words(&[281_483_566_710_784, 0, T + 4, 9, 844_424_930_131_969, T]),
 ];

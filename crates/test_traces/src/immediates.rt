@@ -4,7 +4,7 @@ use crate::replays::{Only, ReplayedText, replay_all};
 use crate::text_runs::TextRun;
 use comp_mutator::Refusal;
 use comp_trace::{Shown, TraceFault};
-use heap_layout::{FIRST_IMMEDIATE as I, Kind};
+use heap_layout::{FIRST_IMMEDIATE as I, Kind, TO_SPACE as T};
 use test_support::Worked;
 
 // On the three objects of edition two in edition four, whose second root is the immediate with payload 5.
@@ -41,9 +41,9 @@ static ON_IMMEDIATES: [ReplayedText; 4] = [
             text: b"0 root 0 0\n0 imm 1 8589934596\n0 store 0 0 1\n0 load 0 0 0\n0 load 0 0 0\n",
         },
         shown: &[],
-        fault: Some(TraceFault::Refused(5, Refusal::NotAStart(I + 8_589_934_596))),
+        fault: Some(TraceFault::Refused(5, Refusal::NotAStart(I + T + 4))),
         live_words: 6,
-        entries: &[Only(0, 0, Kind::Reference, 5, I + 8_589_934_596)],
+        entries: &[Only(0, 0, Kind::Reference, 5, I + T + 4)],
     },
     ReplayedText {
         case: TextRun {

@@ -3,7 +3,7 @@ use crate::replays::{Only, ReplayedText, replay_all};
 use crate::text_runs::TextRun;
 use comp_mutator::Refusal;
 use comp_trace::{Shown, TraceFault};
-use heap_layout::Kind;
+use heap_layout::{Kind, TO_SPACE as T};
 use test_support::Worked;
 
 // On the three objects of edition two in edition three, with 70,000 roots, of which number 65,536 and the last refer to
@@ -32,7 +32,7 @@ static ON_MANY_ROOTS: [ReplayedText; 5] = [
         fault: Some(TraceFault::Refused(6, Refusal::NoSuchField)),
         live_words: 10,
         entries: &[
-            Only(0, 0, Kind::Reference, 5, 8_589_934_596),
+            Only(0, 0, Kind::Reference, 5, T + 4),
             Only(1, 1, Kind::Header, 0, 0x3fff_0001_0001_0001),
         ],
     },

@@ -5,7 +5,7 @@ use crate::text_runs::TextRun;
 use comp_journal::Entry;
 use comp_mutator::{Finished, Refusal};
 use comp_trace::{Shown, Stopped, TraceFault};
-use heap_layout::Kind;
+use heap_layout::{Kind, TO_SPACE as T};
 use page_plan::Plan;
 use std::alloc::Global;
 use std::marker::Brand;
@@ -64,7 +64,7 @@ static ON_THREE: [ReplayedText; 11] = [
         live_words: 5,
         entries: &[
             Only(1, 0, Kind::Header, 0, 0),
-            Only(0, 1, Kind::Reference, 3, 8_589_934_656),
+            Only(0, 1, Kind::Reference, 3, T + 64),
         ],
     },
     ReplayedText {
@@ -179,7 +179,7 @@ static ON_WEAK: [ReplayedText; 4] = [
         live_words: 8,
         entries: &[
             Only(1, 0, Kind::Header, 0, 1_407_379_178_520_576),
-            Only(0, 1, Kind::Weak, 1, 8_589_934_656),
+            Only(0, 1, Kind::Weak, 1, T + 64),
         ],
     },
     ReplayedText {

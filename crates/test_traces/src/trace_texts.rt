@@ -2,6 +2,7 @@
 use crate::expected::expect_eq;
 use comp_mutator::Refusal;
 use comp_trace::{Action, Line, RefusedLine, TraceFault, parse};
+use heap_layout::TO_SPACE as T;
 use std::alloc::Global;
 use std::process::Abort;
 use test_support::At;
@@ -319,7 +320,7 @@ fn expect_faults(rt: &impl Abort, alloc: Global) {
     }
     let stop = RefusedLine {
         line: 7,
-        refusal: Refusal::NotAStart(8_589_934_593),
+        refusal: Refusal::NotAStart(T + 1),
     };
     let text = "T6 Refused(7, M2 NotAStart(8589934593))";
     expect_printed(rt, alloc, TraceFault::from(stop), text);
