@@ -9,7 +9,8 @@ import tempfile
 from pathlib import Path
 
 CALLS = 20000
-WORDS = [str(CALLS), str((1 << 20) // 3), "1", "1"]
+# A heap of half the words that an edition-one heap may have: the other pages are fresh.
+WORDS = [str(CALLS), str((1 << 19) // 3), "1", "1"]
 LOOPS = {"read": "a read", "write": "a write", "alloc": "an allocation", "touch": "a touch of a built page"}
 # a line of callgrind_annotate: instructions, perhaps their share, and the function
 LINE = re.compile(r"\s*([\d,]+)\s+(?:\([^)]*\)\s+)?\S*?:(\S.*?)(?: \[[^]]*\])?$")

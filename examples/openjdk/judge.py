@@ -1,13 +1,19 @@
 #!/usr/bin/env python3
-"""Judges what a collection left of a heap: a small model of `compressor audit`, `audit --words` and `moved`. It shares
-nothing with the program, and believes that the files are whole, and that nothing was allocated meanwhile.
+"""usage: judge.py IMAGE LEFT
 
-    ./judge.py IMAGE DUMP      or WORDS, or MOVED: the file itself says what it is
+Judges what a collection left of a heap: a small model of `compressor audit`, `audit --words` and `moved`. It shares
+nothing with the program, and believes that the files are whole, and that nothing was allocated meanwhile. LEFT is a
+dump, or words, or what moved: the file itself says what it is.
+
+  --help  prints this text
+
+Status: 0 if it is right; 1 if not; 2 for a wrong word.
 """
 
 import array
 import collections
 import itertools
+import os
 import sys
 
 sys.dont_write_bytecode = True
@@ -122,11 +128,26 @@ def judge(heap, path, whole=False):
     return judge_moved(heap, left) if isinstance(left, Moved) else judge_dump(heap, left, whole)
 
 
+def wrong(said):
+    print("judge.py: %s (--help says more)" % said, file=sys.stderr)
+    sys.exit(2)
+
+
 def main():
-    if len(sys.argv) != 3:
-        sys.exit("usage: judge.py IMAGE LEFT")
+    files = sys.argv[1:]
+    for word in files:
+        if word == "--help":
+            print(__doc__, end="")
+            return
+        if word.startswith("-"):
+            wrong("no word " + word)
+    if len(files) != 2:
+        wrong("it wants two files")
+    for path in files:
+        if not os.path.isfile(path):
+            wrong("no file at " + path)
     try:
-        print(judge(accepted(sys.argv[1]), sys.argv[2]))
+        print(judge(accepted(files[0]), files[1]))
     except Fault as fault:
         sys.exit(str(fault))
 
