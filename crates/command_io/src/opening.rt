@@ -1,5 +1,5 @@
 //! How the program opens the files that it reads, and creates those that it makes.
-ghost use Rattle.std.specs.Prelude.{◌≡◌, ◌⊎◌, ℕ, List, refl, codes, IfOk, IfErr, OnOk, OnErr};
+ghost use Rattle.std.specs.Prelude.{◌≡◌, ◌≢◌, ℕ, List, refl, codes, IfOk, IfErr, OnOk, OnErr};
 ghost use Rattle.heap_layout.specs.Counted.{failures_of};
 ghost use Rattle.heap_layout.specs.declared.counted.Counted.{Counted as ACounted};
 ghost use Rattle.command_io.specs.declared.refusal.Output.{Output as AnOutput};
@@ -93,7 +93,8 @@ impl<'a, R> RuntimeFiles<'a, R> {
 
 // The path at which the system has what is read: standard input for `-`.
 fn readable(path: &str) -> &str
-    ensures { result.now ≡ path.now ⊎ (path.now ≡ codes "-") × (result.now ≡ codes "/dev/stdin") }
+    ensures dash { path.now ≡ codes "-" → result.now ≡ codes "/dev/stdin" }
+    ensures others { path.now ≢ codes "-" → result.now ≡ path.now }
 {
     if path == "-" { "/dev/stdin" } else { path }
 }
