@@ -1,15 +1,16 @@
 //! The words of a new table, which are lent and never written.
 ghost use Rattle.std.specs.Prelude.{◌≡◌, ◌≤◌, replicate};
 
-/// The words of the largest table of edition one or two: 16,384 compacted pages and 4,096 fresh ones, each with a state
-/// word and 64 words; the start bits of the fresh ones; the clock.
-pub const MAX_TABLE_WORDS: usize = 1_335_297;
+/// So many zeros can be lent: more than the words of the largest table of edition one or two, which are 1,335,297, and
+/// enough for 32,000 pages, each with a state word and 64 words. Rattle takes no larger static. A table with more words
+/// copies zeros of its own.
+pub const MAX_TABLE_WORDS: usize = 2_097_152;
 
 static ZEROS: [u64; MAX_TABLE_WORDS] = [0; MAX_TABLE_WORDS];
 
-/// `n` zeros, without room of their own. `n` must be at most 1,335,297, the words of that table.
+/// `n` zeros, without room of their own. `n` must be at most 2,097,152, which is `MAX_TABLE_WORDS`.
 pub fn zeros(n: usize) -> &'static [u64]
-    requires { n ≤ 1335297 }
+    requires { n ≤ 2097152 }
     ensures { result.now ≡ replicate n 0 }
 {
     first(&ZEROS, n)

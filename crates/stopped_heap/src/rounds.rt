@@ -398,7 +398,7 @@ fn reach<R: Threads + Sync>(
         return false;
     }
     let mut next = 0;
-    // Whether nothing was shared out yet. Then it is asked whether that gains.
+    // Whether no round was shared out yet; one large object does not count. Then it is asked whether sharing gains.
     let mut asked = true;
     let patience = wide.max(words.len() / PATIENCE);
     // Each turn follows one object or more, and no more are met than there are words.
