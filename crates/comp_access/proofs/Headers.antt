@@ -2,7 +2,7 @@
 use Rattle.std.proofs.Common.{◌≡◌, ℕ, ◌+◌, true, false, cond, eqb, Some, List, [], ◌∷◌, map, sym, ap, subst, inl, ◌∙◌}
 use Rattle.std.proofs.lemmas.Option.{none-some, same_Some}
 use Rattle.heap_layout.specs.declared.edition.Edition.{Edition}
-use Rattle.heap_layout.specs.Header.{header_of, Head}
+use Rattle.heap_layout.specs.Header.{Head}
 use Rattle.heap_layout.specs.Heap.{object_at}
 use Rattle.page_plan.specs.Sliding.{header_from, size, to_address}
 use Rattle.cell_steps.specs.Setup.{Setup}

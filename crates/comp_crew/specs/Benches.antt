@@ -4,8 +4,8 @@ use Rattle.heap_layout.specs.Heap.{Heap, live}
 use Rattle.page_plan.specs.Sliding as sliding
 use Rattle.cell_steps.specs.Setup.{Setup}
 use Rattle.page_cells.specs.CellViews as cells
-use Rattle.comp_hand.specs.Hands as hands
-use Rattle.comp_hand.specs.declared.hand.Hand.{Hand}
+use Rattle.comp_access.specs.Hands as hands
+use Rattle.comp_access.specs.declared.hand.Hand.{Hand}
 use Rattle.comp_crew.specs.Members.{crew_of, name_of, setup_in, steps_of, IsMember}
 use Rattle.comp_crew.specs.declared.bench.Bench.{Bench}
 use Rattle.comp_crew.specs.declared.crew.Crew.{Crew}

@@ -7,8 +7,8 @@ use Rattle.comp_cycles.specs.declared.finished.Finished.{Finished}
 use Rattle.comp_cycles.specs.Ends.{IsEndOf}
 use Rattle.comp_cycles.specs.Ends as ends
 use Rattle.comp_cycles.specs.NextHeap.{next_heap}
-use Rattle.comp_hand.specs.Hands.{pass_of}
-use Rattle.comp_hand.specs.declared.hand.Hand.{Hand}
+use Rattle.comp_access.specs.Hands.{pass_of}
+use Rattle.comp_access.specs.declared.hand.Hand.{Hand}
 use Rattle.comp_crew.specs.Benches.{hands_on, setup_on}
 use Rattle.comp_crew.specs.HandOrders.{HasAll, IsInOrder, IsLeastMissing}
 use Rattle.comp_crew.specs.declared.bench.Bench.{Bench}

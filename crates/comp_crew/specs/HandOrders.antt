@@ -2,8 +2,8 @@
 use Rattle.std.specs.Prelude.{ℕ, List}
 use Rattle.heap_layout.specs.Numbered as numbered
 use Rattle.cell_steps.specs.Passes.{number_of}
-use Rattle.comp_hand.specs.Hands.{pass_of}
-use Rattle.comp_hand.specs.declared.hand.Hand.{Hand}
+use Rattle.comp_access.specs.Hands.{pass_of}
+use Rattle.comp_access.specs.declared.hand.Hand.{Hand}
 
 -- the number of the mutator whose hand it is
 abbrev pub number_of_hand : Hand → ℕ

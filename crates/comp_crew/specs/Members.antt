@@ -6,7 +6,7 @@ use Rattle.cell_steps.specs.declared.pass.Pass.{Pass}
 use Rattle.cell_steps.specs.declared.steps.Steps.{Steps}
 use Rattle.page_cells.specs.CellViews as cells
 use Rattle.heap_layout.specs.declared.edition.Edition.{Edition}
-use Rattle.comp_hand.specs.Hands as hands
+use Rattle.comp_access.specs.Hands as hands
 use Rattle.comp_crew.specs.declared.crew.Crew.{Crew}
 use Rattle.comp_crew.specs.declared.member.Member.{Member}
 

@@ -4,7 +4,7 @@ ghost use Rattle.page_cells.specs.CellViews.{setup_of};
 
 use crate::crew::Crew;
 use crate::member::Member;
-use comp_hand::Hand;
+use comp_access::Hand;
 use heap_layout::OutOfMemory;
 use std::sync::Arc;
 

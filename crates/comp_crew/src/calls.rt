@@ -14,8 +14,7 @@ ghost use Rattle.comp_access.specs.declared.refusal.Refusal.TheVariants as refus
 ghost use Rattle.comp_crew.specs.Members.{crew_of, made_of, pass_of, setup_of, IsMember};
 
 use crate::member::Member;
-use comp_access::{PageCopy, Refusal, Touched};
-use comp_hand::asked_header;
+use comp_access::{PageCopy, Refusal, Touched, asked_header};
 use heap_layout::Header;
 use std::alloc::Global;
 

@@ -1,8 +1,8 @@
 ghost use Rattle.std.specs.Prelude.{◌≡◌, ◌↔◌, ◌^◌, ◌≤◌, map, vec_capacity, All, IfOk, IsErrOf};
 ghost use Rattle.heap_layout.specs.Limits.{most_fresh_pages};
 ghost use Rattle.page_cells.specs.CellViews.{setup_of, steps_of, AreNew};
-ghost use Rattle.comp_hand.specs.Hands.{pass_of, IsHandOf};
-ghost use Rattle.comp_hand.specs.declared.hand.Hand.{Hand as AHand};
+ghost use Rattle.comp_access.specs.Hands.{pass_of, IsHandOf};
+ghost use Rattle.comp_access.specs.declared.hand.Hand.{Hand as AHand};
 ghost use Rattle.comp_crew.specs.Benches.{IsFlipped};
 ghost use Rattle.comp_crew.specs.Members.{AreBadCounts};
 ghost use Rattle.comp_crew.specs.declared.fault.CrewFault.TheVariants.{BadCounts};
@@ -10,7 +10,7 @@ ghost use Rattle.comp_crew.specs.declared.fault.CrewFault.TheVariants.{BadCounts
 use crate::bench::Bench;
 use crate::crew::Crew;
 use crate::fault::CrewFault;
-use comp_hand::Hand;
+use comp_access::Hand;
 use heap_layout::{MAX_MUTATORS, OutOfMemory};
 use page_cells::{Cells, Pass};
 use page_plan::Plan;

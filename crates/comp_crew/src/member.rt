@@ -5,7 +5,7 @@ ghost use Rattle.comp_history.specs.MadeWords.{allocated};
 ghost use Rattle.comp_cycles.specs.Forwarded.{AreForwarded};
 
 use crate::crew::Crew;
-use comp_hand::Hand;
+use comp_access::Hand;
 use heap_layout::Edition;
 use std::sync::Arc;
 

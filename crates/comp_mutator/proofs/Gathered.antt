@@ -3,7 +3,7 @@ use Rattle.std.proofs.Common.{◌≡◌, ℕ, ◌+◌, ◌≤◌, List, map, sum
 use mathlib.Core.Option.{some}
 use lib.ListN.{get_elem?}
 use Rattle.page_cells.proofs.Rows.{at_map, at_map_back}
-use Rattle.comp_hand.proofs.HandRows.{at_some}
+use Rattle.comp_access.proofs.HandRows.{at_some}
 use Rattle.comp_ledger.specs.Ledgers.{live_of, capacity_of, share_count, GatherRefused}
 use Rattle.comp_ledger.specs.Shares.{numbers_of, total_posted, NoneMissing}
 use Rattle.comp_ledger.specs.Shares.{number_of as number_of_share}

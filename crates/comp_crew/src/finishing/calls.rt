@@ -1,8 +1,8 @@
 ghost use Rattle.std.specs.Prelude.{◌≡◌, ◌*◌, ◌≤◌, [], List, All, length, map, vec_capacity, IfOk, IfErr};
 ghost use Rattle.page_cells.specs.Rooms.{IsRoomFor};
 ghost use Rattle.comp_cycles.specs.Finishes.{allocated_by, IsFinished, IsOfFlip};
-ghost use Rattle.comp_hand.specs.Hands.{pass_of, IsHandOf};
-ghost use Rattle.comp_hand.specs.declared.hand.Hand.{Hand as AHand};
+ghost use Rattle.comp_access.specs.Hands.{pass_of, IsHandOf};
+ghost use Rattle.comp_access.specs.declared.hand.Hand.{Hand as AHand};
 ghost use Rattle.comp_crew.specs.Benches.{IsBench};
 ghost use Rattle.comp_crew.specs.Finishing.{IsEndBy, IsEnded, IsOfItsFlip, IsUnfinishedFor};
 ghost use Rattle.comp_crew.specs.Members.{setup_in};
@@ -12,8 +12,8 @@ use crate::bench::Bench;
 use crate::crew::Crew;
 use crate::fault::FinishFault;
 use crate::finishing::{Ended, Unfinished};
+use comp_access::Hand;
 use comp_cycles::Finished;
-use comp_hand::Hand;
 use heap_layout::{OutOfMemory, in_order, least_missing};
 use page_cells::{Pass, Room};
 use std::alloc::Global;
@@ -88,7 +88,7 @@ fn close_all(crew: Crew, hands: Vec<Hand>, room: Rooms) -> Ended
     let (passes, made) = parted(row, passes);
     let edition = cells.edition();
     let live = cells.plan().live_words() + made;
-    let closed = comp_hand::close_row(cells, passes, closing);
+    let closed = comp_access::close_row(cells, passes, closing);
     Ended {
         plan,
         finished: Finished {

@@ -2,9 +2,9 @@ use Rattle.std.proofs.Common.{◌≡◌, ◌+◌, ◌≤◌, ◌∷◌, [], All,
 use Rattle.std.proofs.lemmas.List.Elements.{All-push}
 use Rattle.page_cells.specs.CellViews.{mutators_of, steps_of, Works}
 use Rattle.cell_steps.specs.declared.pass.Pass.{Pass}
-use Rattle.comp_hand.specs.Hands.{pass_of, IsHandOf}
-use Rattle.comp_hand.specs.declared.hand.Hand.{Hand}
-use Rattle.comp_hand.proofs.HandRows.{next_at, one_made, still_room}
+use Rattle.comp_access.specs.Hands.{pass_of, IsHandOf}
+use Rattle.comp_access.specs.declared.hand.Hand.{Hand}
+use Rattle.comp_access.proofs.HandRows.{next_at, one_made, still_room}
 use Rattle.comp_crew.proofs.flipping.new_hands.Goals as goal
 
 pub new-requires-clause-of : goal.new-requires-clause-of

@@ -1,6 +1,6 @@
 use Rattle.std.proofs.Common.{◌≡◌, ◌+◌, ◌≤◌, ◌++◌, All, map, length, vec_capacity}
-use Rattle.comp_hand.specs.Hands.{pass_of, IsHandOf}
-use Rattle.comp_hand.specs.declared.hand.Hand.{Hand}
+use Rattle.comp_access.specs.Hands.{pass_of, IsHandOf}
+use Rattle.comp_access.specs.declared.hand.Hand.{Hand}
 use Rattle.comp_crew.proofs.flipping.new_hands.Given as goal
 
 abbrev pub invariant-loop-pass : goal.invariant-loop-pass

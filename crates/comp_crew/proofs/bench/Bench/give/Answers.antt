@@ -1,7 +1,7 @@
 use Rattle.std.proofs.Common.{◌≡◌, List, All, ap, sym, subst, ◌∙◌}
 use Rattle.std.proofs.lemmas.List.Elements.{All-push}
-use Rattle.comp_hand.specs.Hands.{IsHandOf}
-use Rattle.comp_hand.specs.declared.hand.Hand.{Hand}
+use Rattle.comp_access.specs.Hands.{IsHandOf}
+use Rattle.comp_access.specs.declared.hand.Hand.{Hand}
 use Rattle.comp_crew.specs.Benches.{name_on}
 use Rattle.comp_crew.specs.Members.{name_of}
 use Rattle.comp_crew.specs.declared.crew.Crew.{Crew}

@@ -5,10 +5,10 @@ use Rattle.cell_steps.specs.declared.pass.Pass.{Pass}
 use Rattle.page_cells.specs.CellEnds as ends
 use Rattle.comp_cycles.specs.Finishes.{allocated_by, IsFinished}
 use Rattle.comp_cycles.specs.declared.finished.Finished.{Finished}
-use Rattle.comp_hand.specs.Endings.{IsLeft}
-use Rattle.comp_hand.specs.Hands.{IsHandOf}
-use Rattle.comp_hand.specs.declared.hand.Hand.{Hand}
-use Rattle.comp_hand.proofs.HandRows.{all_at, passes_in_order, rest_all}
+use Rattle.comp_access.specs.Endings.{IsLeft}
+use Rattle.comp_access.specs.Hands.{IsHandOf}
+use Rattle.comp_access.specs.declared.hand.Hand.{Hand}
+use Rattle.comp_access.proofs.HandRows.{all_at, passes_in_order, rest_all}
 use Rattle.comp_crew.specs.Members.{setup_in, steps_of}
 use Rattle.comp_crew.specs.HandOrders.{IsInOrder}
 use Rattle.comp_crew.proofs.EndCounts.{end_moved, lists_shown}

@@ -1,6 +1,6 @@
 use Rattle.std.proofs.Common.{◌<◌, List, ap, sym, subst, ◌∙◌}
 use Rattle.heap_layout.proofs.Ordered.{none_missing}
-use Rattle.comp_hand.specs.declared.hand.Hand.{Hand}
+use Rattle.comp_access.specs.declared.hand.Hand.{Hand}
 use Rattle.comp_crew.specs.Benches.{setup_on}
 use Rattle.comp_crew.specs.Members.{setup_in}
 use Rattle.comp_crew.specs.HandOrders.{number_of_hand, IsLeastMissing}

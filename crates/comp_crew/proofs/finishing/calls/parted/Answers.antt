@@ -1,6 +1,6 @@
 use Rattle.std.proofs.Common.{◌+◌, [], ◌∷◌, ◌++◌, vec_capacity, length, refl, ap, ◌∙◌, arith, length-append}
-use Rattle.comp_hand.specs.Hands.{pass_of}
-use Rattle.comp_hand.proofs.HandRows.{moved, room_left, words_left}
+use Rattle.comp_access.specs.Hands.{pass_of}
+use Rattle.comp_access.proofs.HandRows.{moved, room_left, words_left}
 use Rattle.comp_crew.proofs.Parts.{bound_all, bound_more}
 use Rattle.comp_crew.proofs.finishing.calls.parted.Goals as goal
 

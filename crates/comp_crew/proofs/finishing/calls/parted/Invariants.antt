@@ -1,6 +1,6 @@
 use Rattle.std.proofs.Common.{◌≡◌, ◌+◌, ◌*◌, ◌≤◌, ◌++◌, map, length, vec_capacity}
 use Rattle.comp_cycles.specs.Finishes.{allocated_by}
-use Rattle.comp_hand.specs.Hands.{pass_of}
+use Rattle.comp_access.specs.Hands.{pass_of}
 use Rattle.comp_crew.proofs.finishing.calls.parted.Given as goal
 
 abbrev pub invariant-loop-hand : goal.invariant-loop-hand

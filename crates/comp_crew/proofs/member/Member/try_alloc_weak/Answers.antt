@@ -2,7 +2,7 @@ use Rattle.std.proofs.Common.{Option, IfErr, ap, sym, subst, ◌∙◌}
 use Rattle.heap_layout.specs.Header.{header_with, size_of, Head}
 use Rattle.comp_access.specs.Allocations.{AllocationRefused, AskedRefused}
 use Rattle.comp_crew.specs.Members.{pass_of, setup_in}
-use Rattle.comp_hand.specs.Hands as hands
+use Rattle.comp_access.specs.Hands as hands
 use Rattle.comp_crew.specs.declared.crew.Crew.{Crew}
 use Rattle.comp_crew.proofs.member.Member.try_alloc_weak.Goals as goal
 

@@ -2,8 +2,8 @@ use Rattle.std.proofs.Common.{◌+◌, ◌<◌, ◌≤◌, arith}
 use Rattle.heap_layout.specs.Heap.{live}
 use Rattle.page_plan.specs.Sliding.{live_words}
 use Rattle.cell_steps.specs.Passes.{number_of}
-use Rattle.comp_hand.specs.Hands.{made_of}
-use Rattle.comp_hand.proofs.Fitting.{made_fit}
+use Rattle.comp_access.specs.Hands.{made_of}
+use Rattle.comp_access.proofs.Fitting.{made_fit}
 use Rattle.comp_ledger.specs.Ledgers.{capacity_of, live_of}
 use Rattle.comp_mutator.specs.Mutators.{pass_of, setup_of}
 use Rattle.comp_mutator.proofs.space.Space.settle.Goals as goal

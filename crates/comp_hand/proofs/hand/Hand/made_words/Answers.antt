@@ -1,5 +1,0 @@
-use Rattle.comp_hand.proofs.Fitting.{made_few}
-use Rattle.comp_hand.proofs.hand.Hand.made_words.Goals as goal
-
-pub returns-clause-few : goal.returns-clause-few
-returns-clause-few c = made_few c.args.self.now
