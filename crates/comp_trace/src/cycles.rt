@@ -6,7 +6,7 @@ mod marking;
 mod replaying;
 mod roots;
 
-pub use cycle::{Ran, run_cycle};
+pub use cycle::run_cycle;
 pub use fault::CycleFault;
 pub use marking::{Marking, next_marked};
 pub use replaying::{CyclesRun, CyclesStopped, replay_cycles, replay_marked};

@@ -9,12 +9,12 @@ mod steps;
 mod text;
 
 pub use cycles::{
-    CycleFault, CyclesStopped, Marking, Ran, next_marked, replay_cycles, replay_marked, root_words,
+    CycleFault, CyclesStopped, Marking, next_marked, replay_cycles, replay_marked, root_words,
     run_cycle,
 };
 pub use races::{NotRaced, Raced, Run, race};
 pub use replays::{
-    Halt, Replayed, Stopped, refusals_are_of_runs, replay, replay_registers, replay_text,
+    Halt, Ran, Replayed, Stopped, refusals_are_of_runs, replay, replay_registers, replay_text,
     replays_show_once, runs_are_determined,
 };
 pub use steps::Shown;

@@ -1,4 +1,8 @@
 //! Draws a heap.
+ghost use Rattle.std.specs.Prelude.{IfOk};
+ghost use Rattle.std.specs.String.{string_bytes};
+ghost use Rattle.heap_map.specs.Pictures.{IsWhole};
+
 use crate::arrows::{
     MOST_ARROWS, draw_arcs, draw_dumped_arcs, draw_roots, references_of, roots_of,
 };
@@ -18,7 +22,9 @@ use std::alloc::{AllocError, Global};
 
 /// The picture of the heap of a plan, as the text of an SVG: from-space above, to-space below. With a dump, to-space is
 /// drawn as the dump has it. A picture has less than 2 MB. Err if memory runs out.
-pub fn draw(alloc: Global, plan: &Plan, view: Option<&DumpView<'_>>) -> Result<String, AllocError> {
+pub fn draw(alloc: Global, plan: &Plan, view: Option<&DumpView<'_>>) -> Result<String, AllocError>
+    ensures { IfOk result (λ picture. IsWhole (string_bytes picture)) }
+{
     let dump = view.map(|view| view.dump);
     let lines = view.map_or(0, lines_told);
     let frame = Frame::new(plan, dump, lines);

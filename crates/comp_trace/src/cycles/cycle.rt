@@ -6,28 +6,13 @@ ghost use Rattle.comp_trace.specs.Traces.{lines_of};
 ghost use Rattle.comp_trace.specs.Heaps.{HasRunOver};
 ghost use Rattle.comp_trace.specs.CycleRuns.{IsCycleHaltOf, IsLastRun, IsLastRunWith, IsParsedFor};
 
-use crate::replays::{Halt, run_over};
-use crate::steps::Shown;
+use crate::replays::{Halt, Ran, run_over};
 use crate::text::Trace;
-use comp_cycles::Finished;
 use heap_layout::MarkedHeap;
 use page_plan::Plan;
 use std::alloc::Global;
 use std::sync::Arc;
 use std::thread::Threads;
-
-/// A cycle that was run.
-#[derive(Drop)]
-pub struct Ran {
-    /// The plan of the compacted heap. It is the builder that `Finished::next_cycle` requires.
-    pub plan: Arc<Plan>,
-    /// The values that the `get` lines showed, in the order of the lines.
-    pub shown: Vec<Shown>,
-    /// The words in the registers of each mutator at the end of the run, in the order of their numbers.
-    pub registers: Vec<[u64; 16]>,
-    /// The heap at the end of the cycle.
-    pub finished: Finished,
-}
 
 /// Runs one cycle: flips the heap for this number of mutators and fresh pages, runs the trace over it by one thread,
 /// and finishes it.
@@ -65,13 +50,8 @@ pub fn run_cycle(
     let Ok(own) = plan.clone() else {
         return Err(Halt::Unplanned);
     };
-    match run_over(alloc, own, trace, mutators, fresh) {
-        Ok(run) => Ok(Ran {
-            plan,
-            shown: run.shown,
-            registers: run.registers,
-            finished: run.finished,
-        }),
+    match run_over(alloc, own, plan, trace, mutators, fresh) {
+        Ok(ran) => Ok(ran),
         Err(halt) => Err(halt),
     }
 }

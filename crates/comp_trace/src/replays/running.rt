@@ -19,10 +19,12 @@ use std::marker::Brand;
 use std::sync::Arc;
 use std::sync::ledger::{Blank, Ledger};
 
-/// A finished heap over which a trace was run, the values that the trace showed, and what its registers hold.
+/// A heap over which a trace was run, from the flip to the finish.
 #[derive(Drop)]
-pub struct Run {
-    /// The values that the `get` lines showed, in order.
+pub struct Ran {
+    /// The plan of the compacted heap. It is the builder that `Finished::next_cycle` requires.
+    pub plan: Arc<Plan>,
+    /// The values that the `get` lines showed, in the order of the lines.
     pub shown: Vec<Shown>,
     /// The words in the registers of each mutator at the end of the run, in the order of their numbers.
     pub registers: Vec<[u64; 16]>,
@@ -44,18 +46,21 @@ pub enum Halt {
 }
 
 /// Flips the heap of a plan, runs a trace over it by one thread, and finishes it. Requires 1 to 64 mutators, at most
-/// 4,096 fresh pages, and a trace that was parsed for these mutators and the heap's roots.
+/// 4,096 fresh pages, and a trace that was parsed for these mutators and the heap's roots. The space keeps `plan`, and
+/// the answer has `kept`, which is the same plan.
 pub fn run_over(
     alloc: Global,
     plan: Arc<Plan>,
+    kept: Arc<Plan>,
     trace: &Trace,
     mutators: u8,
     fresh: u32,
-) -> Result<Run, Halt>
+) -> Result<Ran, Halt>
     requires mutators { (1 ≤ mutators) × (mutators ≤ 64) }
     requires fresh { fresh ≤ 4096 }
     requires parsed { (mutators_of trace.now ≡ mutators) × (roots_of trace.now ≡ length plan.value.roots) }
     ensures run { IfOk result (λ run. HasRunOver mutators fresh (lines_of trace.now) run.shown.items plan.value run.finished) }
+    ensures plan { IfOk result (λ run. run.plan.value ≡ kept.value) }
     ensures registers { IfOk result (λ run. HasRunWith mutators fresh (lines_of trace.now) run.shown.items plan.value run.finished run.registers.items) }
     ensures flipped { IfOk result (λ run. IsOfFlip mutators fresh run.finished) }
     ensures halted { IfErr result (IsHaltOf mutators fresh (lines_of trace.now) plan.value) }
@@ -65,6 +70,7 @@ pub fn run_over(
         alloc,
         Blank::new(u64::from(mutators)),
         plan,
+        kept,
         trace,
         mutators,
         fresh,
@@ -77,10 +83,11 @@ fn flipped_and_run<L: Ledger>(
     alloc: Global,
     blank: Blank,
     plan: Arc<Plan>,
+    kept: Arc<Plan>,
     trace: &Trace,
     mutators: u8,
     fresh: u32,
-) -> Result<Run, Halt>
+) -> Result<Ran, Halt>
     requires name { blank.name ≡ L.name }
     requires parts { blank.parts ≡ L.parts }
     requires count { blank.parts ≡ mutators }
@@ -89,12 +96,13 @@ fn flipped_and_run<L: Ledger>(
     requires closed { IsClosed plan.value }
     requires parsed { (mutators_of trace.now ≡ mutators) × (roots_of trace.now ≡ length plan.value.roots) }
     ensures run { IfOk result (λ run. HasRunOver mutators fresh (lines_of trace.now) run.shown.items plan.value run.finished) }
+    ensures plan { IfOk result (λ run. run.plan.value ≡ kept.value) }
     ensures registers { IfOk result (λ run. HasRunWith mutators fresh (lines_of trace.now) run.shown.items plan.value run.finished run.registers.items) }
     ensures flipped { IfOk result (λ run. IsOfFlip mutators fresh run.finished) }
     ensures halted { IfErr result (IsHaltOf mutators fresh (lines_of trace.now) plan.value) }
 {
     match flip::<L, Plan>(alloc, blank, plan, mutators, fresh) {
-        Ok((space, made)) => run_and_finish(alloc, space, made, trace),
+        Ok((space, made)) => run_and_finish(alloc, space, made, kept, trace),
         Err(FlipFault::OutOfMemory) => Err(Halt::Unflipped),
         Err(FlipFault::BadCounts) => unreachable!(),
     }
@@ -105,8 +113,9 @@ fn run_and_finish<L: Ledger>(
     alloc: Global,
     space: Space<L, Plan>,
     mut mutators: Vec<Mutator<L>>,
+    kept: Arc<Plan>,
     trace: &Trace,
-) -> Result<Run, Halt>
+) -> Result<Ran, Halt>
     requires of { AreMutatorsOf space mutators.items }
     requires new { AreNew (steps_of (cells_of space)) (setup_of space).mutators (map pass_of mutators.items) }
     requires whole { (setup_of space).mutators ≡ L.parts }
@@ -114,6 +123,7 @@ fn run_and_finish<L: Ledger>(
     requires closed { IsClosed (setup_of space).heap }
     requires parsed { IsParsedFor (setup_of space) trace.now }
     ensures run { IfOk result (λ run. HasRunOver (setup_of space).mutators (setup_of space).fresh (lines_of trace.now) run.shown.items (setup_of space).heap run.finished) }
+    ensures plan { IfOk result (λ run. run.plan.value ≡ kept.value) }
     ensures registers { IfOk result (λ run. HasRunWith (setup_of space).mutators (setup_of space).fresh (lines_of trace.now) run.shown.items (setup_of space).heap run.finished run.registers.items) }
     ensures flipped { IfOk result (λ run. IsOfFlip (setup_of space).mutators (setup_of space).fresh run.finished) }
     ensures halted { IfErr result (IsHaltOf (setup_of space).mutators (setup_of space).fresh (lines_of trace.now) (setup_of space).heap) }
@@ -122,7 +132,8 @@ fn run_and_finish<L: Ledger>(
     let _ = trace.lines();
     match replay_registers(alloc, trace, &space, &mut mutators) {
         Ok(ran) => match space.finish(alloc, mutators) {
-            Ok(finished) => Ok(Run {
+            Ok(finished) => Ok(Ran {
+                plan: kept,
                 shown: ran.shown,
                 registers: ran.registers,
                 finished,

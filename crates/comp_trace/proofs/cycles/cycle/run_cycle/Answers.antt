@@ -1,5 +1,6 @@
-use Rattle.std.proofs.Common.{subst, ◌∙◌}
+use Rattle.std.proofs.Common.{subst, sym, ◌∙◌}
 use Rattle.heap_layout.specs.Heap.{Heap}
+use Rattle.comp_cycles.specs.Ends.{IsEndOf}
 use Rattle.comp_trace.specs.Traces.{lines_of}
 use Rattle.comp_trace.specs.Heaps.{HasRunOver, HasRunWith}
 use Rattle.comp_trace.proofs.LastRuns.{halted_over, last_run, last_run_with}
@@ -10,7 +11,7 @@ returns-in-Ok-run_over-clause-run g c =
     let m = c.args.mutators in
     let fresh = c.args.fresh in
     let lines = lines_of c.args.trace.now in
-    let run = c.in-Ok-run_over.run' in
+    let run = c.in-Ok-run_over.ran in
     last_run m fresh lines run.shown.items c.args.heap run.finished c.requires.fresh
     (subst (λ (heap : Heap). HasRunOver m fresh lines run.shown.items heap run.finished) (c.in-Ok-clone.ensures.cases ∙ c.in-Ok-new.ensures.ok ∙ c.in-Ok.ensures) c.in-Ok-run_over.ensures.run)
 
@@ -19,7 +20,7 @@ returns-in-Ok-run_over-clause-registers g c =
     let m = c.args.mutators in
     let fresh = c.args.fresh in
     let lines = lines_of c.args.trace.now in
-    let run = c.in-Ok-run_over.run' in
+    let run = c.in-Ok-run_over.ran in
     last_run_with m fresh lines run.shown.items c.args.heap run.finished run.registers.items c.requires.fresh
     (subst (λ (heap : Heap). HasRunWith m fresh lines run.shown.items heap run.finished run.registers.items) (c.in-Ok-clone.ensures.cases ∙ c.in-Ok-new.ensures.ok ∙ c.in-Ok.ensures) c.in-Ok-run_over.ensures.registers)
 
@@ -28,14 +29,14 @@ returns-in-Ok-run_over-clause-end g c =
     let m = c.args.mutators in
     let fresh = c.args.fresh in
     let lines = lines_of c.args.trace.now in
-    let run = c.in-Ok-run_over.run' in
+    let run = c.in-Ok-run_over.ran in
     let last = last_run m fresh lines run.shown.items c.in-Ok-new.plan.value run.finished c.requires.fresh
     (subst (λ (heap : Heap). HasRunOver m fresh lines run.shown.items heap run.finished) c.in-Ok-clone.ensures.cases c.in-Ok-run_over.ensures.run) in
-    last.end
+    subst (λ (heap : Heap). IsEndOf heap run.finished) (sym c.in-Ok-run_over.ensures.plan) last.end
 
 pub returns-in-Ok-run_over-clause-over : goal.returns-in-Ok-run_over-clause-over
 returns-in-Ok-run_over-clause-over g c =
-    let run = c.in-Ok-run_over.run' in
+    let run = c.in-Ok-run_over.ran in
     subst (λ (heap : Heap). HasRunOver c.args.mutators c.args.fresh (lines_of c.args.trace.now) run.shown.items heap run.finished) (c.in-Ok-clone.ensures.cases ∙ c.in-Ok-new.ensures.ok ∙ c.in-Ok.ensures) c.in-Ok-run_over.ensures.run
 
 pub returns-in-Err-clause-halted : goal.returns-in-Err-clause-halted
