@@ -1,7 +1,7 @@
 -- From what the parser found to what the words ask.
 use Rattle.std.proofs.Common.{◌≡◌, ◌≢◌, ◌⊎◌, ◌∙◌, ◌∷◌, ◌++◌, ◌≤◌, ℕ, List, Option, Some, IfOk, IfErr, Result, Ok, Err}
-use Rattle.std.proofs.Common.{[], None, Bool, cond, arith, sym, ap, ap₂, subst, inl, inr, codes, is_some, map, unwrap_or, refl, true, false, true≢false}
-use Rattle.std.specs.Prelude.{find, option_and_then, option_map, IsSomeAnd, IsUtf8, IfSome}
+use Rattle.std.proofs.Common.{[], None, Bool, cond, sym, ap, ap₂, subst, inl, inr, codes, is_some, map, unwrap_or, refl, true, false, true≢false}
+use Rattle.std.specs.Prelude.{option_and_then, option_map, IsSomeAnd, IsUtf8, IfSome}
 use Rattle.std.specs.Str.{bytes_eq}
 use Rattle.std.specs.String.{string_bytes}
 use Rattle.std.specs.declared.string.String.{String}
@@ -18,21 +18,21 @@ use Rattle.clap.specs.declared.parser.matches.ArgMatches.TheViews.{out-ArgMatche
 use Rattle.clap.specs.declared.parser.matches.Found.{Found}
 use Rattle.clap.specs.Walk.{row_text, with_default}
 use Rattle.clap.proofs.WalkLemmas.{both, first_value-rows, one_text-rows}
-use Rattle.command_line.specs.AskedTasks.{Asks, AsksCollect, AsksCompact, AsksHelp, AsksMark, AsksNoCommand, AsksPlan, AsksVersion, AsksWord, HasLawfulCounts, IsAnswerOf}
-use Rattle.command_line.specs.Forms.{Choice, Form, Parameter, audit_form, collect_form, compact_form, fresh, large, map_form, mark_form, moved_form, mutators, next_form, number, plan_form, race_form, replay_form, run_form, standing, text, word_form, workers}
-use Rattle.command_line.specs.Given.{HasOption, HasSwitch, IsChosen, IsCommandWith, IsFlag, IsNumber, IsNumberOr, Takes, Use, is_among, text_given}
-use Rattle.command_line.specs.ParserFinds.{IsRunRequest, IsRunFound}
+use Rattle.command_line.specs.AskedTasks.{Asks, AsksWith, AsksHelp, AsksNoCommand, AsksVersion, HasLawfulCounts, IsRunGiven, IsText}
+use Rattle.command_line.specs.Forms.{Choice, Form, Parameter, command_form, fresh, mutators, named, number_within, run_form, workers_form, word_form, workers}
+use Rattle.command_line.specs.Given.{HasOption, HasSwitch, IsChosen, IsCommandWith, IsNumber, IsNumberOr, Takes, Use, is_among, text_given}
+use Rattle.command_line.specs.ParserFinds.{IsAnswerOf, IsFlag, IsRunFound, IsRunRequest}
 use Rattle.command_line.specs.NextArguments.{says_reachable}
-use Rattle.command_line.specs.Parser.{program}
-use Rattle.command_line.specs.RunArguments.{AsksRun, Run}
+use Rattle.command_line.specs.Parser.{program, standing}
+use Rattle.command_line.specs.declared.words.TraceRun.{TraceRun}
 use Rattle.command_line.specs.declared.words.Task.{Task}
-use Rattle.command_line.specs.declared.words.Task.TheVariants.{Plan, Word, Replay, Race, Compact, Audit, Next, Mark, Collect, Moved, Map, Help, Version}
+use Rattle.command_line.specs.declared.words.Task.TheVariants.{Help, Version}
 use Rattle.command_line.proofs.Chosen.{HasArgument, among_used, argument_fits, argument_off, first_found, one_found, option_fits, option_off, switch_found}
 use Rattle.command_line.proofs.Firsts.{found_holds}
 use Rattle.command_line.proofs.FormLevel.{IsReadable}
-use Rattle.command_line.proofs.FormRules.{built_switch, is_switch, same_text}
+use Rattle.command_line.proofs.FormRules.{built_switch, is_switch}
 use Rattle.command_line.proofs.KindLists.{some_kind}
-use Rattle.command_line.proofs.Parsed.{HasCommands, parsed, faulty, helped, standing_commands, versioned}
+use Rattle.command_line.proofs.Parsed.{faulty, helped, parsed, versioned}
 use Rattle.command_line.proofs.Settled.{is_used, row}
 use Rattle.command_line.proofs.SwitchRows.{others_named, own_row, switches_parted, with_switches}
 use Rattle.command_line.proofs.TopLevel.{IsCommand, IsOneOf, IsProgram, one_of_these, same_form, standing_program}
@@ -155,53 +155,50 @@ module _ (words : List (List ℕ)) (f : Found) (form : Form) (asked : CommandAsk
       go true e = flag.0 (found ∙ rw e refl) ∙ sym e
       go false e = flag.1 (found ∙ rw e refl) ∙ sym e
 
-  -- so is the only one
-  pub switch_reported : (w : Parameter) → form.switches ≡ w ∷ [] → (b : Bool) → IsFlag (one_text f w.id) b → b ≡ is_among w.id asked.given
-  switch_reported w is b flag =
-      let has : HasSwitch form w = ap (λ (vs : List Parameter). find (λ (x : Parameter). bytes_eq x.id w.id) vs) is ∙ rw (same_text w.id) refl in
-      switch_among [] w [] is has refl refl b flag
+-- a command of this name, with these options, switches besides `--large`, and arguments besides IMAGE
+module _ (words : List (List ℕ)) (f : Found) (name : List ℕ) (options : List Choice) (switches others : List Parameter) (asked : CommandAsked words f (command_form name options switches others)) where
+  abbrev mine : Form
+  mine = command_form name options switches others
 
--- ---- `plan` and `word`
+  -- its image was found
+  pub image_there : is_some (first_value f (codes "IMAGE")) ≡ true
+  image_there = argument_there words f mine asked (named (codes "IMAGE")) refl
 
--- the words are `plan`, with the path that was found
-pub plan_asked : (words : List (List ℕ)) (f : Found) → CommandAsked words f plan_form → (image : List ℕ) (b : Bool) → Some image ≡ first_value f (codes "IMAGE")
-    → IsFlag (one_text f (codes "large")) b → AsksPlan words image b
-plan_asked words f asked image b at_image flag = record {
-  uses = asked.given;
-  is_command = asked.is_command;
-  with_image = argument_reported words f plan_form asked (text (codes "IMAGE")) refl image at_image;
-  with_large = switch_reported words f plan_form asked large refl b flag;
-}
+  -- and the words are the command, with what was found
+  pub asked_with : is_switch switches (codes "large") ≡ false → (image : List ℕ) (b : Bool) (Holds : List Use → Type 0) → Some image ≡ first_value f (codes "IMAGE")
+      → IsFlag (one_text f (codes "large")) b → Holds asked.given → AsksWith mine words image b Holds
+  asked_with alone image b Holds at_image flag holds = record {
+    uses = asked.given;
+    is_command = asked.is_command;
+    with_image = argument_reported words f mine asked (named (codes "IMAGE")) refl image at_image;
+    with_large = switch_among words f mine asked [] (named (codes "large")) switches refl refl refl alone b flag;
+    with_others = holds;
+  }
+
+-- ---- `word`
 
 module _ (words : List (List ℕ)) (f : Found) (asked : CommandAsked words f word_form) where
+  abbrev index : Parameter
+  index = number_within (codes "INDEX") 0 18446744073709551615
+
   -- a number was found as the index
   pub index_there : IsSomeAnd (one_text f (codes "INDEX")) (λ digits. (n : ℕ) × IsNumber digits n)
-  index_there = go (text_given (codes "INDEX") asked.given) (number_reported words f word_form asked (number (codes "INDEX")) refl)
-      (number_there words f word_form asked (number (codes "INDEX")) refl) (number_fits words f word_form asked (number (codes "INDEX")) refl)
+  index_there = go (text_given (codes "INDEX") asked.given) (number_reported words f word_form asked index refl) (number_there words f word_form asked index refl)
+      (number_fits words f word_form asked index refl)
     where
-      go : (o : Option (List ℕ)) → one_text f (codes "INDEX") ≡ o → is_some o ≡ true → IfSome o (Takes (number (codes "INDEX")))
+      go : (o : Option (List ℕ)) → one_text f (codes "INDEX") ≡ o → is_some o ≡ true → IfSome o (Takes index)
           → IsSomeAnd (one_text f (codes "INDEX")) (λ digits. (n : ℕ) × IsNumber digits n)
       go None is there fits = absurd (true≢false (sym there))
       go (Some digits) is there fits = rw is (fits.0, fits.1)
 
-  -- the words are `word`, with the path and the index that were found
-  pub word_asked : (image : List ℕ) (index : ℕ) (b : Bool) → Some image ≡ first_value f (codes "IMAGE") → IfSome (one_text f (codes "INDEX")) (λ digits. IsNumber digits index)
-      → IsFlag (one_text f (codes "large")) b → AsksWord words image index b
-  word_asked image index b at_image at_index flag = go (text_given (codes "INDEX") asked.given) refl (number_there words f word_form asked (number (codes "INDEX")) refl)
+  -- and it is the one that is given
+  pub index_reported : (n : ℕ) → IfSome (one_text f (codes "INDEX")) (λ digits. IsNumber digits n) → IsSomeAnd (text_given (codes "INDEX") asked.given) (λ digits. IsNumber digits n)
+  index_reported n h = go (text_given (codes "INDEX") asked.given) (number_there words f word_form asked index refl)
+      (subst (λ (r : Option (List ℕ)). IfSome r (λ digits. IsNumber digits n)) (number_reported words f word_form asked index refl) h)
     where
-      go : (o : Option (List ℕ)) → text_given (codes "INDEX") asked.given ≡ o → is_some o ≡ true → AsksWord words image index b
-      go None is there = absurd (true≢false (sym there))
-      go (Some digits) is there =
-          let read : one_text f (codes "INDEX") ≡ Some digits = number_reported words f word_form asked (number (codes "INDEX")) refl ∙ is in
-          record {
-            uses = asked.given;
-            is_command = asked.is_command;
-            with_image = argument_reported words f word_form asked (text (codes "IMAGE")) refl image at_image;
-            digits = digits;
-            with_digits = is;
-            with_index = subst (λ (r : Option (List ℕ)). IfSome r (λ text. IsNumber text index)) read at_index;
-            with_large = switch_reported words f word_form asked large refl b flag;
-          }
+      go : (o : Option (List ℕ)) → is_some o ≡ true → IfSome o (λ digits. IsNumber digits n) → IsSomeAnd o (λ digits. IsNumber digits n)
+      go None there is = absurd (true≢false (sym there))
+      go (Some digits) there is = is
 
 -- ---- numbers of options
 
@@ -224,94 +221,37 @@ module _ (words : List (List ℕ)) (f : Found) (name : List ℕ) (asked : Comman
   -- a run is found if this command is asked for
   pub run_found : IsRunRequest f
   run_found = record {
-    has_image = argument_there words f (run_form name) asked (text (codes "IMAGE")) refl;
-    has_trace = argument_there words f (run_form name) asked (text (codes "TRACE")) refl;
-    has_dump = argument_there words f (run_form name) asked (text (codes "DUMP")) refl;
+    has_image = argument_there words f (run_form name) asked (named (codes "IMAGE")) refl;
+    has_trace = argument_there words f (run_form name) asked (named (codes "TRACE")) refl;
+    has_dump = argument_there words f (run_form name) asked (named (codes "DUMP")) refl;
     fits_mutators = choice_fits words f (run_form name) asked mutators refl;
     fits_fresh = choice_fits words f (run_form name) asked fresh refl;
   }
 
   -- and it is what the words ask
-  pub run_asked : (run : Run) → IsRunFound f run → AsksRun name words run
-  run_asked run is = record {
-    uses = asked.given;
-    is_command = asked.is_command;
-    with_image = argument_reported words f (run_form name) asked (text (codes "IMAGE")) refl run.image is.image_is;
-    with_trace = argument_reported words f (run_form name) asked (text (codes "TRACE")) refl run.trace is.trace_is;
-    with_dump = argument_reported words f (run_form name) asked (text (codes "DUMP")) refl run.dump is.dump_is;
-    with_mutators = choice_reported words f (run_form name) asked mutators refl run.count is.mutators_are;
-    with_fresh = choice_reported words f (run_form name) asked fresh refl run.pages is.fresh_are;
-    with_large = switch_reported words f (run_form name) asked large refl run.large is.large_is;
-  }
+  pub run_asked : (run : TraceRun) → IsRunFound f run → AsksWith (run_form name) words run.image.now run.large (IsRunGiven run)
+  run_asked run is = asked_with words f _ _ _ _ asked refl _ _ _ is.image_is is.large_is (
+    argument_reported words f (run_form name) asked (named (codes "TRACE")) refl run.trace.now is.trace_is,
+    argument_reported words f (run_form name) asked (named (codes "DUMP")) refl run.dump.now is.dump_is,
+    choice_reported words f (run_form name) asked mutators refl run.mutators is.mutators_are,
+    choice_reported words f (run_form name) asked fresh refl run.fresh is.fresh_are,
+  )
 
--- ---- `compact`
+-- ---- `compact`, `mark` and `collect`
 
-module _ (words : List (List ℕ)) (f : Found) (asked : CommandAsked words f compact_form) where
-  -- what `--workers` takes was found, if anything
-  pub workers_fit : IfSome (one_text f (codes "workers")) (Takes workers.takes)
-  workers_fit = choice_fits words f compact_form asked workers refl
+module _ (words : List (List ℕ)) (f : Found) (name out : List ℕ) (asked : CommandAsked words f (workers_form name out)) where
+  -- the number of workers is one that the option takes
+  pub workers_form_fits : IfSome (one_text f (codes "workers")) (Takes workers.takes)
+  workers_form_fits = choice_fits words f (workers_form name out) asked workers refl
 
-  -- the number that was read is within the bounds
-  pub workers_within : (n : ℕ) → IsNumberOr 2 (one_text f (codes "workers")) n → (1 ≤ n) × (n ≤ 64)
-  workers_within n h = within_bounds (one_text f (codes "workers")) 2 1 64 n (omega arith) (omega arith) workers_fit h
-
-  -- and the words are `compact`, with these paths and this number
-  pub compact_asked : (image dump : List ℕ) (n : ℕ) (b : Bool) → Some image ≡ first_value f (codes "IMAGE") → Some dump ≡ first_value f (codes "DUMP")
-      → IsNumberOr 2 (one_text f (codes "workers")) n → IsFlag (one_text f (codes "large")) b → AsksCompact words image dump n b
-  compact_asked image dump n b at_image at_dump h flag = record {
-    uses = asked.given;
-    is_command = asked.is_command;
-    with_image = argument_reported words f compact_form asked (text (codes "IMAGE")) refl image at_image;
-    with_dump = argument_reported words f compact_form asked (text (codes "DUMP")) refl dump at_dump;
-    with_workers = choice_reported words f compact_form asked workers refl n h;
-    with_large = switch_reported words f compact_form asked large refl b flag;
-  }
-
--- ---- `mark`
-
-module _ (words : List (List ℕ)) (f : Found) (asked : CommandAsked words f mark_form) where
-  -- what `--workers` takes was found, if anything
-  pub markers_fit : IfSome (one_text f (codes "workers")) (Takes workers.takes)
-  markers_fit = choice_fits words f mark_form asked workers refl
-
-  -- the number that was read is within the bounds
-  pub markers_within : (n : ℕ) → IsNumberOr 2 (one_text f (codes "workers")) n → (1 ≤ n) × (n ≤ 64)
-  markers_within n h = within_bounds (one_text f (codes "workers")) 2 1 64 n (omega arith) (omega arith) markers_fit h
-
-  -- and the words are `mark`, with these paths and this number
-  pub mark_asked : (image new : List ℕ) (n : ℕ) (b : Bool) → Some image ≡ first_value f (codes "IMAGE") → Some new ≡ first_value f (codes "NEW")
-      → IsNumberOr 2 (one_text f (codes "workers")) n → IsFlag (one_text f (codes "large")) b → AsksMark words image new n b
-  mark_asked image new n b at_image at_new h flag = record {
-    uses = asked.given;
-    is_command = asked.is_command;
-    with_image = argument_reported words f mark_form asked (text (codes "IMAGE")) refl image at_image;
-    with_new = argument_reported words f mark_form asked (text (codes "NEW")) refl new at_new;
-    with_workers = choice_reported words f mark_form asked workers refl n h;
-    with_large = switch_reported words f mark_form asked large refl b flag;
-  }
-
--- ---- `collect`
-
-module _ (words : List (List ℕ)) (f : Found) (asked : CommandAsked words f collect_form) where
-  -- what `--workers` takes was found, if anything
-  pub collectors_fit : IfSome (one_text f (codes "workers")) (Takes workers.takes)
-  collectors_fit = choice_fits words f collect_form asked workers refl
-
-  -- the number that was read is within the bounds
-  pub collectors_within : (n : ℕ) → IsNumberOr 2 (one_text f (codes "workers")) n → (1 ≤ n) × (n ≤ 64)
-  collectors_within n h = within_bounds (one_text f (codes "workers")) 2 1 64 n (omega arith) (omega arith) collectors_fit h
-
-  -- and the words are `collect`, with these paths and this number
-  pub collect_asked : (image new : List ℕ) (n : ℕ) (b : Bool) → Some image ≡ first_value f (codes "IMAGE") → Some new ≡ first_value f (codes "NEW")
-      → IsNumberOr 2 (one_text f (codes "workers")) n → IsFlag (one_text f (codes "large")) b → AsksCollect words image new n b
-  collect_asked image new n b at_image at_new h flag = record {
-    uses = asked.given;
-    is_command = asked.is_command;
-    with_image = argument_reported words f collect_form asked (text (codes "IMAGE")) refl image at_image;
-    with_new = argument_reported words f collect_form asked (text (codes "NEW")) refl new at_new;
-    with_workers = choice_reported words f collect_form asked workers refl n h;
-    with_large = switch_reported words f collect_form asked large refl b flag;
-  }
+  -- and the words are the command, with what was found
+  pub workers_form_asked : HasArgument (workers_form name out) (named out) → (image other : List ℕ) (n : ℕ) (b : Bool) → Some image ≡ first_value f (codes "IMAGE") → Some other ≡ first_value f out
+      → IsNumberOr 2 (one_text f (codes "workers")) n → IsFlag (one_text f (codes "large")) b
+      → AsksWith (workers_form name out) words image b (λ uses. IsText out other uses × IsChosen workers uses n)
+  workers_form_asked has image other n b at_image at_other h flag = asked_with words f _ _ _ _ asked refl _ _ _ at_image flag (
+    argument_reported words f (workers_form name out) asked (named out) has other at_other,
+    choice_reported words f (workers_form name out) asked workers refl n h,
+  )
 
 -- ---- nothing else is found
 
@@ -326,23 +266,22 @@ entered_one forms is words o utf8 taken found =
 abbrev pub EnteredAs : Entered → Form → Type 0
 EnteredAs o form = (rows : List Row) → o ≡ Some (form.name, rows) → ⊥
 
+-- none of these forms was entered
+abbrev pub NoneEntered : Entered → List Form → Type 0
+NoneEntered o [] = Unit {0}
+NoneEntered o (form ∷ rest) = EnteredAs o form × NoneEntered o rest
+
+-- so it is none of them
+none_of : (o : Entered) (forms : List Form) → NoneEntered o forms → (form : Form) (rows : List Row) → IsOneOf forms form → o ≡ Some (form.name, rows) → ⊥
+none_of o [] none form rows one is = one
+none_of o (other ∷ rest) none form rows (inl same) is = none.0 rows (is ∙ ap (λ (x : Form). Some (x.name, rows)) same)
+none_of o (other ∷ rest) none form rows (inr one) is = none_of o rest none.1 form rows one is
+
 pub none_of_standing : (r : Bool) (words : List (List ℕ)) (o : Entered) → All IsUtf8 words → fault_of (program (standing r)) words ≡ [] → subcommand_of (program (standing r)) words ≡ o
-    → EnteredAs o plan_form → EnteredAs o word_form → EnteredAs o replay_form → EnteredAs o race_form → EnteredAs o compact_form → EnteredAs o audit_form → EnteredAs o (next_form r) → EnteredAs o mark_form → EnteredAs o collect_form → EnteredAs o moved_form → EnteredAs o map_form → ⊥
-none_of_standing r words o utf8 taken found plan word replay race compact audit next mark collect moved mapped = go (entered_one (standing r) (standing_program r) words o utf8 taken found)
-  where
-    go : (form : Form) × (rows : List Row) × IsOneOf (standing r) form × (o ≡ Some (form.name, rows)) → ⊥
-    go (form, rows, inl same, is) = plan rows (is ∙ ap (λ (x : Form). Some (x.name, rows)) same)
-    go (form, rows, inr (inl same), is) = word rows (is ∙ ap (λ (x : Form). Some (x.name, rows)) same)
-    go (form, rows, inr (inr (inl same)), is) = replay rows (is ∙ ap (λ (x : Form). Some (x.name, rows)) same)
-    go (form, rows, inr (inr (inr (inl same))), is) = race rows (is ∙ ap (λ (x : Form). Some (x.name, rows)) same)
-    go (form, rows, inr (inr (inr (inr (inl same)))), is) = compact rows (is ∙ ap (λ (x : Form). Some (x.name, rows)) same)
-    go (form, rows, inr (inr (inr (inr (inr (inl same))))), is) = audit rows (is ∙ ap (λ (x : Form). Some (x.name, rows)) same)
-    go (form, rows, inr (inr (inr (inr (inr (inr (inl same)))))), is) = next rows (is ∙ ap (λ (x : Form). Some (x.name, rows)) same)
-    go (form, rows, inr (inr (inr (inr (inr (inr (inr (inl same))))))), is) = mark rows (is ∙ ap (λ (x : Form). Some (x.name, rows)) same)
-    go (form, rows, inr (inr (inr (inr (inr (inr (inr (inr (inl same)))))))), is) = collect rows (is ∙ ap (λ (x : Form). Some (x.name, rows)) same)
-    go (form, rows, inr (inr (inr (inr (inr (inr (inr (inr (inr (inl same))))))))), is) = moved rows (is ∙ ap (λ (x : Form). Some (x.name, rows)) same)
-    go (form, rows, inr (inr (inr (inr (inr (inr (inr (inr (inr (inr (inl same)))))))))), is) = mapped rows (is ∙ ap (λ (x : Form). Some (x.name, rows)) same)
-    go (form, rows, inr (inr (inr (inr (inr (inr (inr (inr (inr (inr (inr none)))))))))), is) = none
+    → NoneEntered o (standing r) → ⊥
+none_of_standing r words o utf8 taken found none =
+    let one = entered_one (standing r) (standing_program r) words o utf8 taken found in
+    none_of o (standing r) none one.0 one.1 one.2 one.3
 
 -- ---- what is answered in place of a task
 
@@ -379,45 +318,28 @@ found_at forms is a words m e h =
 
 -- an answer in place of a command has no counts
 pub answer_counts : (error : Error) (r : Result Task Error) → IfOk r (IsAnswerOf (kind_of error)) → IfOk r HasLawfulCounts
-answer_counts error (Ok (Plan image b)) answer = _
-answer_counts error (Ok (Word image index b)) answer = _
-answer_counts error (Ok (Replay run)) answer = absurd answer
-answer_counts error (Ok (Race run)) answer = absurd answer
-answer_counts error (Ok (Compact image dump n b)) answer = absurd answer
-answer_counts error (Ok (Audit audit)) answer = _
-answer_counts error (Ok (Next next)) answer = absurd answer
-answer_counts error (Ok (Mark image new n b)) answer = absurd answer
-answer_counts error (Ok (Collect image new n b)) answer = absurd answer
-answer_counts error (Ok (Moved image moved b)) answer = _
-answer_counts error (Ok (Map run)) answer = _
 answer_counts error (Ok (Help text)) answer = _
 answer_counts error (Ok Version) answer = _
+answer_counts error (Ok command) answer = absurd answer
 answer_counts error (Err reported) answer = _
 
-module _ (forms : List Form) (is : IsProgram forms) (words : List (List ℕ)) (said : Bool) (says : said ≡ says_reachable words) (has : HasCommands forms said) (utf8 : All IsUtf8 words) where
+module _ (r : Bool) (words : List (List ℕ)) (says : r ≡ says_reachable words) (utf8 : All IsUtf8 words) where
+  abbrev forms : List Form
+  forms = standing r
+
   -- help comes only if they ask for nothing, and some word is for help
   help_asked : IsAmong DisplayHelp (fault_of (program forms) words) → AsksHelp words
-  help_asked here = (faulty forms is words said says has (some_kind DisplayHelp (fault_of (program forms) words) here), helped forms is words utf8 here)
+  help_asked here = (faulty r words says (some_kind DisplayHelp (fault_of (program forms) words) here), helped forms (standing_program r) words utf8 here)
 
   -- and the version only if they ask for nothing, and the first word is for the version
   version_asked : IsAmong DisplayVersion (fault_of (program forms) words) → AsksVersion words
-  version_asked here = (faulty forms is words said says has (some_kind DisplayVersion (fault_of (program forms) words) here), versioned forms is words utf8 here)
+  version_asked here = (faulty r words says (some_kind DisplayVersion (fault_of (program forms) words) here), versioned forms (standing_program r) words utf8 here)
 
   -- a text of help, and the version, is what the words ask
   pub answer_reported : (error : Error) (r : Result Task Error) → HasKind (fault_of (program forms) words) error → IfOk r (IsAnswerOf (kind_of error)) → IfOk r (Asks words)
-  answer_reported error (Ok (Plan image b)) kind answer = absurd answer
-  answer_reported error (Ok (Word image index b)) kind answer = absurd answer
-  answer_reported error (Ok (Replay run)) kind answer = absurd answer
-  answer_reported error (Ok (Race run)) kind answer = absurd answer
-  answer_reported error (Ok (Compact image dump n b)) kind answer = absurd answer
-  answer_reported error (Ok (Audit audit)) kind answer = absurd answer
-  answer_reported error (Ok (Next next)) kind answer = absurd answer
-  answer_reported error (Ok (Mark image new n b)) kind answer = absurd answer
-  answer_reported error (Ok (Collect image new n b)) kind answer = absurd answer
-  answer_reported error (Ok (Moved image moved b)) kind answer = absurd answer
-  answer_reported error (Ok (Map run)) kind answer = absurd answer
   answer_reported error (Ok (Help text)) kind answer = help_asked (among_kinds _ error DisplayHelp kind answer (λ e. cc))
   answer_reported error (Ok Version) kind answer = version_asked (among_kinds _ error DisplayVersion kind answer (λ e. cc))
+  answer_reported error (Ok command) kind answer = absurd answer
   answer_reported error (Err reported) kind answer = _
 
   -- and an error other than out of memory comes only if they have a fault
@@ -433,4 +355,4 @@ module _ (forms : List Form) (is : IsProgram forms) (words : List (List ℕ)) (s
 pub none_reported : (words : List (List ℕ)) (said : Bool) → said ≡ says_reachable words → (r : Result Task Error)
     → IfErr r (λ reported. kind_of reported ≢ OutOfMemory → fault_of (program (standing said)) words ≡ [] → ⊥) → IfErr r (λ reported. kind_of reported ≢ OutOfMemory → AsksNoCommand words)
 none_reported words said says (Ok task) h = _
-none_reported words said says (Err reported) h = λ other. faulty (standing said) (standing_program said) words said says (standing_commands said) (h other)
+none_reported words said says (Err reported) h = λ other. faulty said words says (h other)

@@ -17,7 +17,6 @@ pub mod Reaching
 pub mod Parsed
 pub mod Found
 pub mod AuditFound
-pub mod MovedFound
 pub mod MapFound
 pub mod NextFound
 pub mod RunCounts

@@ -1,19 +1,21 @@
 -- What the words ask, by what clap makes of them.
-use Rattle.std.proofs.Common.{◌≡◌, ◌∙◌, Bool, suc, true, List, [], ◌∷◌, Some, All, Any, IsUtf8, arith, ap, inl, inr, map, refl, subst, sym}
+use Rattle.std.proofs.Common.{◌≡◌, ◌∙◌, Bool, suc, true, List, [], ◌∷◌, Some, All, Any, IsUtf8, arith, ap, codes, inl, inr, map, refl, subst, sym}
 use Rattle.std.proofs.lemmas.List.Elements.{All-tail}
 use Rattle.clap.specs.Words.{IsAmong, Text, fault_of, subcommand_of}
 use Rattle.clap.specs.declared.error.kind.ErrorKind.TheVariants.{DisplayHelp, DisplayVersion}
-use Rattle.command_line.specs.AskedTasks.{AsksNoCommand, is_help, is_version}
-use Rattle.command_line.specs.Forms.{Form, audit_form, collect_form, compact_form, map_form, mark_form, moved_form, next_form, plan_form, race_form, replay_form, standing, word_form}
+use Rattle.command_line.specs.AskedTasks.{AsksCommand, AsksNoCommand, by_reach, is_help, is_version}
+use Rattle.command_line.specs.Forms.{Form, audit_form, map_form, moved_form, next_form, plan_form, run_form, workers_form, word_form}
 use Rattle.command_line.specs.Given.{IsCommandWith, Use}
-use Rattle.command_line.specs.NextArguments.{AsksNext, Next, by_reach, says_reachable}
-use Rattle.command_line.specs.Parser.{program}
+use Rattle.command_line.specs.NextArguments.{says_reachable}
+use Rattle.command_line.specs.Parser.{program, standing}
+use Rattle.command_line.specs.declared.words.Task.{Task}
+use Rattle.command_line.specs.declared.words.Task.TheVariants.{Plan, Word, Replay, Race, Compact, Audit, Next, Mark, Collect, Moved, Map, Help, Version}
 use Rattle.command_line.proofs.Chosen.{texts_used}
 use Rattle.command_line.proofs.FormLevel.{FormTaken, form_help, form_no_version, form_taken, form_takes}
 use Rattle.command_line.proofs.Levels.{level, shape}
 use Rattle.command_line.proofs.Reaching.{reachable_said}
 use Rattle.command_line.proofs.Settled.{AreFresh, row}
-use Rattle.command_line.proofs.TopLevel.{BeginWith, Decided, IsCommand, IsProgram, command_first, command_found, first_decides, standing_audit, standing_collect, standing_compact, standing_map, standing_mark, standing_moved, standing_next, standing_plan, standing_race, standing_replay, standing_word}
+use Rattle.command_line.proofs.TopLevel.{BeginWith, Decided, IsCommand, IsProgram, command_first, command_found, first_decides, standing_program, standing_audit, standing_collect, standing_compact, standing_map, standing_mark, standing_moved, standing_next, standing_plan, standing_race, standing_replay, standing_word}
 use Rattle.command_line.proofs.SwitchRows.{with_switches}
 
 -- ---- words
@@ -78,35 +80,27 @@ none_before : (us : List Use) → AreFresh [] us
 none_before [] = tt
 none_before (u ∷ us) = (refl, none_before us)
 
--- the commands are among those of the program
-pub record HasCommands (forms : List Form) (by_reach : Bool) : Type 0 where
-  pub plan : IsCommand forms plan_form
-  pub word : IsCommand forms word_form
-  pub replay : IsCommand forms replay_form
-  pub race : IsCommand forms race_form
-  pub compact : IsCommand forms compact_form
-  pub audit : IsCommand forms audit_form
-  pub next : IsCommand forms (next_form by_reach)
-  pub mark : IsCommand forms mark_form
-  pub collect : IsCommand forms collect_form
-  pub moved : IsCommand forms moved_form
-  pub map : IsCommand forms map_form
+-- a command by which the words ask, with what is given to it
+abbrev pub AskedForm : List Form → List Text → Type 0
+AskedForm forms words = (form : Form) × IsCommand forms form × (given : List Use) × IsCommandWith form words given
 
--- they are among those that stand
-pub standing_commands : (by_reach : Bool) → HasCommands (standing by_reach) by_reach
-standing_commands r = record {
-  plan = standing_plan r;
-  word = standing_word r;
-  replay = standing_replay r;
-  race = standing_race r;
-  compact = standing_compact r;
-  audit = standing_audit r;
-  next = standing_next r;
-  mark = standing_mark r;
-  collect = standing_collect r;
-  moved = standing_moved r;
-  map = standing_map r;
-}
+-- words that ask for a task by a command are one of those that stand, that of `next` by whether they say `--reachable`
+asked_form : (r : Bool) (words : List Text) → r ≡ says_reachable words → (task : Task) → AsksCommand words task → AskedForm (standing r) words
+asked_form r words says (Plan image b) asks = (plan_form, standing_plan r, asks.uses, asks.is_command)
+asked_form r words says (Word image index b) asks = (word_form, standing_word r, asks.uses, asks.is_command)
+asked_form r words says (Replay run) asks = (run_form (codes "replay"), standing_replay r, asks.uses, asks.is_command)
+asked_form r words says (Race run) asks = (run_form (codes "race"), standing_race r, asks.uses, asks.is_command)
+asked_form r words says (Compact image dump n b) asks = (workers_form (codes "compact") (codes "DUMP"), standing_compact r, asks.uses, asks.is_command)
+asked_form r words says (Audit run) asks = (audit_form, standing_audit r, asks.uses, asks.is_command)
+asked_form r words says (Next run) asks =
+    let same = asks.with_others.0 ∙ reachable_said (by_reach run.marks) words asks.uses asks.is_command ∙ sym says in
+    (next_form r, standing_next r, asks.uses, subst (λ (b : Bool). IsCommandWith (next_form b) words asks.uses) same asks.is_command)
+asked_form r words says (Mark image new n b) asks = (workers_form (codes "mark") (codes "NEW"), standing_mark r, asks.uses, asks.is_command)
+asked_form r words says (Collect image new n b) asks = (workers_form (codes "collect") (codes "NEW"), standing_collect r, asks.uses, asks.is_command)
+asked_form r words says (Moved image moved b) asks = (moved_form, standing_moved r, asks.uses, asks.is_command)
+asked_form r words says (Map run) asks = (map_form, standing_map r, asks.uses, asks.is_command)
+asked_form r words says (Help text) asks = absurd asks
+asked_form r words says Version asks = absurd asks
 
 module _ (forms : List Form) (program_is : IsProgram forms) (words : List Text) where
   -- words that clap takes are a command
@@ -139,23 +133,8 @@ module _ (forms : List Form) (program_is : IsProgram forms) (words : List Text) 
       go (inl (form, command, rest, is)) = absurd (no_version_behind forms form command words rest is utf8 version)
       go (inr refused) = refused.version version
 
-  -- words that are `next` are of the form with `--reachable` if and only if they say so
-  next_asked_as : (said : Bool) → said ≡ says_reachable words → (next : Next) (asks : AsksNext words next) → IsCommandWith (next_form said) words asks.uses
-  next_asked_as said is next asks =
-      subst (λ (r : Bool). IsCommandWith (next_form r) words asks.uses) (asks.with_reachable ∙ reachable_said (by_reach next) words asks.uses asks.is_command ∙ sym is) asks.is_command
-
-  -- words that clap refuses are none of the commands
-  pub faulty : (said : Bool) → said ≡ says_reachable words → HasCommands forms said → (fault_of (program forms) words ≡ [] → ⊥) → AsksNoCommand words
-  faulty said is has fails = record {
-    no_plan = λ image large asks. refused_command plan_form has.plan fails asks.uses asks.is_command;
-    no_word = λ image index large asks. refused_command word_form has.word fails asks.uses asks.is_command;
-    no_replay = λ run asks. refused_command replay_form has.replay fails asks.uses asks.is_command;
-    no_race = λ run asks. refused_command race_form has.race fails asks.uses asks.is_command;
-    no_compact = λ image dump n large asks. refused_command compact_form has.compact fails asks.uses asks.is_command;
-    no_audit = λ audit asks. refused_command audit_form has.audit fails asks.uses asks.is_command;
-    no_next = λ next asks. refused_command (next_form said) has.next fails asks.uses (next_asked_as said is next asks);
-    no_mark = λ image new n large asks. refused_command mark_form has.mark fails asks.uses asks.is_command;
-    no_collect = λ image new n large asks. refused_command collect_form has.collect fails asks.uses asks.is_command;
-    no_moved = λ image moved large asks. refused_command moved_form has.moved fails asks.uses asks.is_command;
-    no_map = λ mapping asks. refused_command map_form has.map fails asks.uses asks.is_command;
-  }
+-- words that clap refuses are none of the commands that stand
+pub faulty : (r : Bool) (words : List Text) → r ≡ says_reachable words → (fault_of (program (standing r)) words ≡ [] → ⊥) → AsksNoCommand words
+faulty r words says fails = λ task asks.
+    let asked = asked_form r words says task asks in
+    refused_command (standing r) (standing_program r) words asked.0 asked.1 fails asked.2 asked.3

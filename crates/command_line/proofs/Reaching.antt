@@ -5,7 +5,7 @@ use Rattle.std.specs.Str.{bytes_eq}
 use Rattle.std.proofs.lemmas.Bool.{or_from}
 use Rattle.std.proofs.lemmas.Option.{same_Some}
 use Rattle.std.proofs.lemmas.Slice.Eq.{bytes_eq-Decides}
-use Rattle.command_line.specs.Forms.{Choice, Parameter, fresh, large, mutators, next_form, next_paths, reachable, roots, workers}
+use Rattle.command_line.specs.Forms.{Choice, Parameter, fresh, mutators, named, next_form, path_option, workers}
 use Rattle.command_line.specs.Given.{Gives, HasOption, IsCommandWith, Use, is_among, is_flag}
 use Rattle.command_line.specs.Given.Gives.{apart, joined, no_word, switched, then_values, to_next}
 use Rattle.command_line.specs.NextArguments.{says_reachable}
@@ -84,7 +84,7 @@ other_fresh = record {
       (apart_at (codes "--fresh=" ++ text) (codes "--reachable") 2 (λ e. let bad : 102 ≡ 114 = e in absurd (omega arith)));
 }
 
-other_roots : IsOther roots
+other_roots : IsOther (path_option (codes "roots"))
 other_roots = record {
   name = refl;
   says = λ rest. refl;
@@ -105,12 +105,12 @@ abbrev AreOff : List Parameter → Type 0
 AreOff [] = Unit {0}
 AreOff (a ∷ rest) = (bytes_eq (codes "reachable") a.id ≡ false) × AreOff rest
 
-off_paths : (by_reach : Bool) → AreOff (next_paths by_reach)
+off_paths : (by_reach : Bool) → AreOff (next_form by_reach).arguments
 off_paths true = (refl, (refl, (refl, tt)))
 off_paths false = (refl, (refl, (refl, (refl, tt))))
 
 option_of : (by_reach : Bool) (o : Choice) → HasOption (next_form by_reach) o → IsOther o
-option_of true o has = elim (one_of_four (λ (x : Choice). bytes_eq x.takes.id o.takes.id) mutators fresh roots workers o has) [
+option_of true o has = elim (one_of_four (λ (x : Choice). bytes_eq x.takes.id o.takes.id) mutators fresh (path_option (codes "roots")) workers o has) [
   | inl e ↦ subst IsOther (sym e) other_mutators
   | inr more ↦ elim more [
     | inl e ↦ subst IsOther (sym e) other_fresh
@@ -154,9 +154,9 @@ module _ (by_reach : Bool) where
       let other = other_option o has in
       rw other.name (given_says more e off ∙ sym (ap (λ (w : Text). says_reachable (w ∷ rest)) spelled ∙ other.joins text rest))
   given_says (switched {s} {ahead} {word} {rest} {given} has spelled more) e off =
-      go (one_of_two (λ (x : Parameter). bytes_eq x.id s.id) large reachable s has) (given_says more e off)
+      go (one_of_two (λ (x : Parameter). bytes_eq x.id s.id) (named (codes "large")) (named (codes "reachable")) s has) (given_says more e off)
     where
-      go : (s ≡ large) ⊎ (s ≡ reachable) → is_among (codes "reachable") given ≡ says_reachable rest
+      go : (s ≡ named (codes "large")) ⊎ (s ≡ named (codes "reachable")) → is_among (codes "reachable") given ≡ says_reachable rest
           → (bytes_eq (codes "reachable") s.id || is_among (codes "reachable") given) ≡ says_reachable (word ∷ rest)
       go (inl is) later = ap (λ (p : Parameter). bytes_eq (codes "reachable") p.id || is_among (codes "reachable") given) is ∙ later
           ∙ sym (ap (λ (w : Text). says_reachable (w ∷ rest)) spelled ∙ ap (λ (p : Parameter). says_reachable ((codes "--" ++ p.id) ∷ rest)) is)
@@ -164,6 +164,6 @@ module _ (by_reach : Bool) where
           ∙ sym (ap (λ (w : Text). says_reachable (w ∷ rest)) spelled ∙ ap (λ (p : Parameter). says_reachable ((codes "--" ++ p.id) ∷ rest)) is)
 
   -- so it is with all words, since the name of the command says nothing
-  pub reachable_said : (words : List Text) (given : List Use) → IsCommandWith (next_form by_reach) words given → is_among reachable.id given ≡ says_reachable words
+  pub reachable_said : (words : List Text) (given : List Use) → IsCommandWith (next_form by_reach) words given → is_among (codes "reachable") given ≡ says_reachable words
   reachable_said words given is =
       given_says is.gives refl (off_paths by_reach) ∙ sym (ap says_reachable is.begin)

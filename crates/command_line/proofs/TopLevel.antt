@@ -16,8 +16,8 @@ use Rattle.clap.proofs.OnLiterals.{clap_on_literals}
 use Rattle.clap.proofs.WalkLemmas.{walk_stopped}
 use Rattle.command_line.specs.AskedTasks.{is_help, is_version}
 use Rattle.command_line.specs.Given.{is_flag}
-use Rattle.command_line.specs.Forms.{Form, audit_form, collect_form, compact_form, map_form, mark_form, moved_form, next_form, plan_form, race_form, replay_form, standing, word_form}
-use Rattle.command_line.specs.Parser.{program}
+use Rattle.command_line.specs.Forms.{Form, audit_form, map_form, moved_form, next_form, plan_form, run_form, workers_form, word_form}
+use Rattle.command_line.specs.Parser.{program, standing}
 use Rattle.std.proofs.lemmas.Bool.{eqb-true}
 use Rattle.command_line.proofs.Lexed.{IsBundle, IsLong, flag_read}
 use Rattle.command_line.proofs.KindLists.{NoAnswer, no_answer_among, or_else_nil}
@@ -118,13 +118,10 @@ plan_readable = record { distinct = refl; apart = refl; clear = refl; flags = re
 word_readable : IsReadable word_form
 word_readable = record { distinct = refl; apart = refl; clear = refl; flags = record { options = refl; switches = refl; apart = refl }; few = omega arith }
 
-replay_readable : IsReadable replay_form
-replay_readable = record { distinct = refl; apart = refl; clear = refl; flags = record { options = refl; switches = refl; apart = refl }; few = omega arith }
+run_readable : (name : Text) → IsReadable (run_form name)
+run_readable name = record { distinct = refl; apart = refl; clear = refl; flags = record { options = refl; switches = refl; apart = refl }; few = omega arith }
 
-race_readable : IsReadable race_form
-race_readable = record { distinct = refl; apart = refl; clear = refl; flags = record { options = refl; switches = refl; apart = refl }; few = omega arith }
-
-compact_readable : IsReadable compact_form
+compact_readable : IsReadable (workers_form (codes "compact") (codes "DUMP"))
 compact_readable = record { distinct = refl; apart = refl; clear = refl; flags = record { options = refl; switches = refl; apart = refl }; few = omega arith }
 
 audit_readable : IsReadable audit_form
@@ -134,11 +131,8 @@ next_readable : (by_reach : Bool) → IsReadable (next_form by_reach)
 next_readable true = record { distinct = refl; apart = refl; clear = refl; flags = record { options = refl; switches = refl; apart = refl }; few = omega arith }
 next_readable false = record { distinct = refl; apart = refl; clear = refl; flags = record { options = refl; switches = refl; apart = refl }; few = omega arith }
 
-mark_readable : IsReadable mark_form
-mark_readable = record { distinct = refl; apart = refl; clear = refl; flags = record { options = refl; switches = refl; apart = refl }; few = omega arith }
-
-collect_readable : IsReadable collect_form
-collect_readable = record { distinct = refl; apart = refl; clear = refl; flags = record { options = refl; switches = refl; apart = refl }; few = omega arith }
+new_readable : (name : Text) → IsReadable (workers_form name (codes "NEW"))
+new_readable name = record { distinct = refl; apart = refl; clear = refl; flags = record { options = refl; switches = refl; apart = refl }; few = omega arith }
 
 moved_readable : IsReadable moved_form
 moved_readable = record { distinct = refl; apart = refl; clear = refl; flags = record { options = refl; switches = refl; apart = refl }; few = omega arith }
@@ -154,13 +148,13 @@ standing_plan by_reach = record { is_one = refl; is_met = refl; is_entered = ref
 pub standing_word : (by_reach : Bool) → IsCommand (standing by_reach) word_form
 standing_word by_reach = record { is_one = refl; is_met = refl; is_entered = refl; is_not_help = refl; is_readable = word_readable }
 
-pub standing_replay : (by_reach : Bool) → IsCommand (standing by_reach) replay_form
-standing_replay by_reach = record { is_one = refl; is_met = refl; is_entered = refl; is_not_help = refl; is_readable = replay_readable }
+pub standing_replay : (by_reach : Bool) → IsCommand (standing by_reach) (run_form (codes "replay"))
+standing_replay by_reach = record { is_one = refl; is_met = refl; is_entered = refl; is_not_help = refl; is_readable = run_readable (codes "replay") }
 
-pub standing_race : (by_reach : Bool) → IsCommand (standing by_reach) race_form
-standing_race by_reach = record { is_one = refl; is_met = refl; is_entered = refl; is_not_help = refl; is_readable = race_readable }
+pub standing_race : (by_reach : Bool) → IsCommand (standing by_reach) (run_form (codes "race"))
+standing_race by_reach = record { is_one = refl; is_met = refl; is_entered = refl; is_not_help = refl; is_readable = run_readable (codes "race") }
 
-pub standing_compact : (by_reach : Bool) → IsCommand (standing by_reach) compact_form
+pub standing_compact : (by_reach : Bool) → IsCommand (standing by_reach) (workers_form (codes "compact") (codes "DUMP"))
 standing_compact by_reach = record { is_one = refl; is_met = refl; is_entered = refl; is_not_help = refl; is_readable = compact_readable }
 
 pub standing_audit : (by_reach : Bool) → IsCommand (standing by_reach) audit_form
@@ -169,11 +163,11 @@ standing_audit by_reach = record { is_one = refl; is_met = refl; is_entered = re
 pub standing_next : (by_reach : Bool) → IsCommand (standing by_reach) (next_form by_reach)
 standing_next by_reach = record { is_one = refl; is_met = refl; is_entered = refl; is_not_help = refl; is_readable = next_readable by_reach }
 
-pub standing_mark : (by_reach : Bool) → IsCommand (standing by_reach) mark_form
-standing_mark by_reach = record { is_one = refl; is_met = refl; is_entered = refl; is_not_help = refl; is_readable = mark_readable }
+pub standing_mark : (by_reach : Bool) → IsCommand (standing by_reach) (workers_form (codes "mark") (codes "NEW"))
+standing_mark by_reach = record { is_one = refl; is_met = refl; is_entered = refl; is_not_help = refl; is_readable = new_readable (codes "mark") }
 
-pub standing_collect : (by_reach : Bool) → IsCommand (standing by_reach) collect_form
-standing_collect by_reach = record { is_one = refl; is_met = refl; is_entered = refl; is_not_help = refl; is_readable = collect_readable }
+pub standing_collect : (by_reach : Bool) → IsCommand (standing by_reach) (workers_form (codes "collect") (codes "NEW"))
+standing_collect by_reach = record { is_one = refl; is_met = refl; is_entered = refl; is_not_help = refl; is_readable = new_readable (codes "collect") }
 
 pub standing_moved : (by_reach : Bool) → IsCommand (standing by_reach) moved_form
 standing_moved by_reach = record { is_one = refl; is_met = refl; is_entered = refl; is_not_help = refl; is_readable = moved_readable }

@@ -1,107 +1,79 @@
 -- What the words of the command line ask for. The program's name is not among them.
-use Rattle.std.specs.Prelude.{◌≡◌, ℕ, ◌≤◌, ◌||◌, Bool, true, List, ◌∷◌, Some, take, codes}
+use Rattle.std.specs.Prelude.{◌≡◌, ℕ, ◌≤◌, ◌||◌, Bool, true, false, List, ◌∷◌, Some, None, IsSomeAnd, take, codes, option_map}
 use Rattle.std.specs.List.{Any}
 use Rattle.std.specs.Str.{bytes_eq}
-use Rattle.clap.specs.declared.error.kind.ErrorKind.{ErrorKind}
-use Rattle.clap.specs.declared.error.kind.ErrorKind.TheVariants.{DisplayHelp, DisplayVersion}
-use Rattle.command_line.specs.Forms.{audit_form, collect_form, compact_form, mark_form, moved_form, plan_form, word_form, workers}
+use Rattle.command_line.specs.Forms.{Form, audit_form, fresh, map_form, moved_form, mutators, next_form, plan_form, run_form, workers_form, word_form, workers}
 use Rattle.command_line.specs.Given.{IsChosen, IsCommandWith, IsNumber, Use, is_among, text_given}
-use Rattle.command_line.specs.Maps.{AsksMap, Mapping, map_of}
-use Rattle.command_line.specs.NextArguments.{AsksNext, IsLawfulNext, Next, next_of}
-use Rattle.command_line.specs.RunArguments.{AsksRun, Audit, IsLawfulRun, Run, audit_of, run_of}
+use Rattle.command_line.specs.declared.next.NextMarks.{NextMarks}
+use Rattle.command_line.specs.declared.next.NextMarks.TheVariants.{Given, Reachable, ReachableFrom}
+use Rattle.command_line.specs.declared.next.NextRun.{NextRun}
 use Rattle.command_line.specs.declared.words.Task.{Task}
-use Rattle.command_line.specs.declared.words.Task.TheVariants.{Plan, Word, Replay, Race, Compact, Mark, Collect, Moved, Help, Version}
-use Rattle.command_line.specs.declared.words.Task.TheVariants as tasks
+use Rattle.command_line.specs.declared.words.Task.TheVariants.{Plan, Word, Replay, Race, Compact, Audit, Next, Mark, Collect, Moved, Map, Help, Version}
+use Rattle.command_line.specs.declared.words.TraceRun.{TraceRun}
 
--- the words are `plan [--large] IMAGE`, with this path of an image, and with the switch or without it
-pub record AsksPlan (words : List (List ℕ)) (image : List ℕ) (is_large : Bool) : Type 0 where
+-- the words are the command of this form, with this path of an image, with `--large` or without it, and this holds of
+-- all that they give
+pub record AsksWith (form : Form) (words : List (List ℕ)) (image : List ℕ) (is_large : Bool) (Holds : List Use → Type 0) : Type 0 where
   pub uses : List Use
-  pub is_command : IsCommandWith plan_form words uses
+  pub is_command : IsCommandWith form words uses
   pub with_image : text_given (codes "IMAGE") uses ≡ Some image
   pub with_large : is_large ≡ is_among (codes "large") uses
+  pub with_others : Holds uses
 
--- the words are `word [--large] IMAGE INDEX`, with this path of an image and this index, and with the switch or without
--- it
-pub record AsksWord (words : List (List ℕ)) (image : List ℕ) (index : ℕ) (is_large : Bool) : Type 0 where
-  pub uses : List Use
-  pub is_command : IsCommandWith word_form words uses
-  pub with_image : text_given (codes "IMAGE") uses ≡ Some image
-  pub digits : List ℕ
-  pub with_digits : text_given (codes "INDEX") uses ≡ Some digits
-  pub with_index : IsNumber digits index
-  pub with_large : is_large ≡ is_among (codes "large") uses
+-- this is the text that is given under this name
+abbrev pub IsText : List ℕ → List ℕ → List Use → Type 0
+IsText id text uses = text_given id uses ≡ Some text
 
--- the words are `replay [--mutators N] [--fresh N] [--large] IMAGE TRACE DUMP`, with this run
-abbrev pub AsksReplay : List (List ℕ) → Run → Type 0
-AsksReplay words run = AsksRun (codes "replay") words run
+-- the paths and numbers of a run are given
+abbrev pub IsRunGiven : TraceRun → List Use → Type 0
+IsRunGiven run uses =
+    IsText (codes "TRACE") run.trace.now uses × IsText (codes "DUMP") run.dump.now uses × IsChosen mutators uses run.mutators × IsChosen fresh uses run.fresh
 
--- the words are `race [--mutators N] [--fresh N] [--large] IMAGE TRACE DUMP`, with this run
-abbrev pub AsksRace : List (List ℕ) → Run → Type 0
-AsksRace words run = AsksRun (codes "race") words run
+-- `next` marks by what roots reach
+abbrev pub by_reach : NextMarks → Bool
+by_reach (Given path) = false
+by_reach marks = true
 
--- the words are `compact [--workers N] [--large] IMAGE DUMP`, with these paths of an image and of the dump, and this
--- number of workers, and with the switch or without it
-pub record AsksCompact (words : List (List ℕ)) (image dump : List ℕ) (n : ℕ) (is_large : Bool) : Type 0 where
-  pub uses : List Use
-  pub is_command : IsCommandWith compact_form words uses
-  pub with_image : text_given (codes "IMAGE") uses ≡ Some image
-  pub with_dump : text_given (codes "DUMP") uses ≡ Some dump
-  pub with_workers : IsChosen workers uses n
-  pub with_large : is_large ≡ is_among (codes "large") uses
+-- the path of the marks is given, and there is one worker; or what roots reach is marked, by workers as their option
+-- says: the roots at the path that is given, or if none is the heap's own
+abbrev pub AreMarksGiven : NextMarks → ℕ → List Use → Type 0
+AreMarksGiven (Given path) n uses = IsText (codes "MARKS") path.now uses × (n ≡ 1)
+AreMarksGiven Reachable n uses = (text_given (codes "roots") uses ≡ None) × IsChosen workers uses n
+AreMarksGiven (ReachableFrom path) n uses = IsText (codes "roots") path.now uses × IsChosen workers uses n
 
--- the words are `audit [--large] [--whole] [--words] [--explain] IMAGE DUMP`, with these arguments
-pub record AsksAudit (words : List (List ℕ)) (audit : Audit) : Type 0 where
-  pub uses : List Use
-  pub is_command : IsCommandWith audit_form words uses
-  pub with_image : text_given (codes "IMAGE") uses ≡ Some audit.image
-  pub with_dump : text_given (codes "DUMP") uses ≡ Some audit.dump
-  pub with_whole : audit.whole ≡ is_among (codes "whole") uses
-  pub with_words : audit.words ≡ is_among (codes "words") uses
-  pub with_explain : audit.explain ≡ is_among (codes "explain") uses
-  pub with_large : audit.large ≡ is_among (codes "large") uses
+-- the paths and numbers of a run of `next` are given, and `--reachable` if and only if it marks by what roots reach
+abbrev pub IsNextGiven : NextRun → List Use → Type 0
+IsNextGiven run uses =
+    (by_reach run.marks ≡ is_among (codes "reachable") uses) × IsText (codes "TRACE") run.trace.now uses × AreMarksGiven run.marks run.workers uses
+    × IsText (codes "NEW") run.new.now uses × IsChosen mutators uses run.mutators × IsChosen fresh uses run.fresh
 
--- the words are `mark [--workers N] [--large] IMAGE NEW`, with these paths of an image and of the new image, and this
--- number of workers, and with the switch or without it
-pub record AsksMark (words : List (List ℕ)) (image new : List ℕ) (n : ℕ) (is_large : Bool) : Type 0 where
-  pub uses : List Use
-  pub is_command : IsCommandWith mark_form words uses
-  pub with_image : text_given (codes "IMAGE") uses ≡ Some image
-  pub with_new : text_given (codes "NEW") uses ≡ Some new
-  pub with_workers : IsChosen workers uses n
-  pub with_large : is_large ≡ is_among (codes "large") uses
+-- the words are the command that asks for this task
+abbrev pub AsksCommand : List (List ℕ) → Task → Type 0
+AsksCommand words (Plan image is_large) = AsksWith plan_form words image.now is_large (λ uses. Unit {0})
+AsksCommand words (Word image index is_large) =
+    AsksWith word_form words image.now is_large (λ uses. IsSomeAnd (text_given (codes "INDEX") uses) (λ digits. IsNumber digits index))
+AsksCommand words (Replay run) = AsksWith (run_form (codes "replay")) words run.image.now run.large (IsRunGiven run)
+AsksCommand words (Race run) = AsksWith (run_form (codes "race")) words run.image.now run.large (IsRunGiven run)
+AsksCommand words (Compact image dump n is_large) =
+    AsksWith (workers_form (codes "compact") (codes "DUMP")) words image.now is_large (λ uses. IsText (codes "DUMP") dump.now uses × IsChosen workers uses n)
+AsksCommand words (Audit run) =
+    AsksWith audit_form words run.image.now run.large
+    (λ uses. IsText (codes "DUMP") run.dump.now uses × (run.whole ≡ is_among (codes "whole") uses) × (run.words ≡ is_among (codes "words") uses)
+    × (run.explain ≡ is_among (codes "explain") uses))
+AsksCommand words (Next run) = AsksWith (next_form (by_reach run.marks)) words run.image.now run.large (IsNextGiven run)
+AsksCommand words (Mark image new n is_large) =
+    AsksWith (workers_form (codes "mark") (codes "NEW")) words image.now is_large (λ uses. IsText (codes "NEW") new.now uses × IsChosen workers uses n)
+AsksCommand words (Collect image new n is_large) =
+    AsksWith (workers_form (codes "collect") (codes "NEW")) words image.now is_large (λ uses. IsText (codes "NEW") new.now uses × IsChosen workers uses n)
+AsksCommand words (Moved image moved is_large) = AsksWith moved_form words image.now is_large (IsText (codes "MOVED") moved.now)
+AsksCommand words (Map run) =
+    AsksWith map_form words run.image.now run.large
+    (λ uses. (text_given (codes "dump") uses ≡ option_map (λ path. path.now) run.dump) × IsText (codes "OUT") run.out.now uses)
+AsksCommand words other = ⊥
 
--- the words are `collect [--workers N] [--large] IMAGE NEW`, with these paths of an image and of the new image, and
--- this number of workers, and with the switch or without it
-pub record AsksCollect (words : List (List ℕ)) (image new : List ℕ) (n : ℕ) (is_large : Bool) : Type 0 where
-  pub uses : List Use
-  pub is_command : IsCommandWith collect_form words uses
-  pub with_image : text_given (codes "IMAGE") uses ≡ Some image
-  pub with_new : text_given (codes "NEW") uses ≡ Some new
-  pub with_workers : IsChosen workers uses n
-  pub with_large : is_large ≡ is_among (codes "large") uses
-
--- the words are `moved [--large] IMAGE MOVED`, with these paths of an image and of a moved heap, and with the switch or
--- without it
-pub record AsksMoved (words : List (List ℕ)) (image moved : List ℕ) (is_large : Bool) : Type 0 where
-  pub uses : List Use
-  pub is_command : IsCommandWith moved_form words uses
-  pub with_image : text_given (codes "IMAGE") uses ≡ Some image
-  pub with_moved : text_given (codes "MOVED") uses ≡ Some moved
-  pub with_large : is_large ≡ is_among (codes "large") uses
-
--- the words are none of these commands
-pub record AsksNoCommand (words : List (List ℕ)) : Type 0 where
-  pub no_plan : (image : List ℕ) (is_large : Bool) → ¬ (AsksPlan words image is_large)
-  pub no_word : (image : List ℕ) (index : ℕ) (is_large : Bool) → ¬ (AsksWord words image index is_large)
-  pub no_replay : (run : Run) → ¬ (AsksReplay words run)
-  pub no_race : (run : Run) → ¬ (AsksRace words run)
-  pub no_compact : (image dump : List ℕ) (n : ℕ) (is_large : Bool) → ¬ (AsksCompact words image dump n is_large)
-  pub no_audit : (audit : Audit) → ¬ (AsksAudit words audit)
-  pub no_next : (next : Next) → ¬ (AsksNext words next)
-  pub no_mark : (image new : List ℕ) (n : ℕ) (is_large : Bool) → ¬ (AsksMark words image new n is_large)
-  pub no_collect : (image new : List ℕ) (n : ℕ) (is_large : Bool) → ¬ (AsksCollect words image new n is_large)
-  pub no_moved : (image moved : List ℕ) (is_large : Bool) → ¬ (AsksMoved words image moved is_large)
-  pub no_map : (mapping : Mapping) → ¬ (AsksMap words mapping)
+-- the words are no command
+abbrev pub AsksNoCommand : List (List ℕ) → Type 0
+AsksNoCommand words = (task : Task) → ¬ (AsksCommand words task)
 
 -- `help`, `--help`, or a flag that begins with `-h`
 abbrev pub is_help : List ℕ → Bool
@@ -121,48 +93,20 @@ AsksVersion words = AsksNoCommand words × ((word : List ℕ) × (rest : List (L
 
 -- the words ask for this task
 abbrev pub Asks : List (List ℕ) → Task → Type 0
-Asks words (Plan image is_large) = AsksPlan words image.now is_large
-Asks words (Word image index is_large) = AsksWord words image.now index is_large
-Asks words (Replay run) = AsksReplay words (run_of run)
-Asks words (Race run) = AsksRace words (run_of run)
-Asks words (Compact image dump n is_large) = AsksCompact words image.now dump.now n is_large
-Asks words (tasks.Audit audit) = AsksAudit words (audit_of audit)
-Asks words (tasks.Next next) = AsksNext words (next_of next)
-Asks words (Mark image new n is_large) = AsksMark words image.now new.now n is_large
-Asks words (Collect image new n is_large) = AsksCollect words image.now new.now n is_large
-Asks words (Moved image moved is_large) = AsksMoved words image.now moved.now is_large
-Asks words (tasks.Map run) = AsksMap words (map_of run)
 Asks words (Help text) = AsksHelp words
 Asks words Version = AsksVersion words
+Asks words task = AsksCommand words task
 
--- the counts of the task are lawful: 1 to 64 mutators or workers, at most 4096 fresh pages
+-- 1 to 64 mutators or workers
+abbrev pub IsCount : ℕ → Type 0
+IsCount n = (1 ≤ n) × (n ≤ 64)
+
+-- the counts of the task are lawful, and there are at most 4096 fresh pages
 abbrev pub HasLawfulCounts : Task → Type 0
-HasLawfulCounts (Plan image is_large) = Unit {0}
-HasLawfulCounts (Word image index is_large) = Unit {0}
-HasLawfulCounts (Replay run) = IsLawfulRun (run_of run)
-HasLawfulCounts (Race run) = IsLawfulRun (run_of run)
-HasLawfulCounts (Compact image dump n is_large) = (1 ≤ n) × (n ≤ 64)
-HasLawfulCounts (tasks.Audit audit) = Unit {0}
-HasLawfulCounts (tasks.Next next) = IsLawfulNext (next_of next)
-HasLawfulCounts (Mark image new n is_large) = (1 ≤ n) × (n ≤ 64)
-HasLawfulCounts (Collect image new n is_large) = (1 ≤ n) × (n ≤ 64)
-HasLawfulCounts (Moved image moved is_large) = Unit {0}
-HasLawfulCounts (tasks.Map run) = Unit {0}
-HasLawfulCounts (Help text) = Unit {0}
-HasLawfulCounts Version = Unit {0}
-
--- the task prints an answer of this kind: a text of help, or the version
-abbrev pub IsAnswerOf : ErrorKind → Task → Type 0
-IsAnswerOf kind (Plan image is_large) = ⊥
-IsAnswerOf kind (Word image index is_large) = ⊥
-IsAnswerOf kind (Replay run) = ⊥
-IsAnswerOf kind (Race run) = ⊥
-IsAnswerOf kind (Compact image dump n is_large) = ⊥
-IsAnswerOf kind (tasks.Audit audit) = ⊥
-IsAnswerOf kind (tasks.Next next) = ⊥
-IsAnswerOf kind (Mark image new n is_large) = ⊥
-IsAnswerOf kind (Collect image new n is_large) = ⊥
-IsAnswerOf kind (Moved image moved is_large) = ⊥
-IsAnswerOf kind (tasks.Map run) = ⊥
-IsAnswerOf kind (Help text) = kind ≡ DisplayHelp
-IsAnswerOf kind Version = kind ≡ DisplayVersion
+HasLawfulCounts (Replay run) = IsCount run.mutators × (run.fresh ≤ 4096)
+HasLawfulCounts (Race run) = IsCount run.mutators × (run.fresh ≤ 4096)
+HasLawfulCounts (Compact image dump n is_large) = IsCount n
+HasLawfulCounts (Next run) = IsCount run.mutators × (run.fresh ≤ 4096) × IsCount run.workers
+HasLawfulCounts (Mark image new n is_large) = IsCount n
+HasLawfulCounts (Collect image new n is_large) = IsCount n
+HasLawfulCounts other = Unit {0}

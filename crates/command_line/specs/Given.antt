@@ -79,7 +79,3 @@ IsNumberOr default text n = MatchOption text (n ≡ default) (λ digits. IsNumbe
 -- the number of an option: the one that is given, or its default
 abbrev pub IsChosen : Choice → List Use → ℕ → Type 0
 IsChosen o given n = IsNumberOr o.default (text_given o.takes.id given) n
-
--- what a switch is, by the text that the parser has for it: `true` if it is given, and else `false`
-abbrev pub IsFlag : Option (List ℕ) → Bool → Type 0
-IsFlag text b = (text ≡ Some (codes "true") → b ≡ true) × (text ≡ Some (codes "false") → b ≡ false)

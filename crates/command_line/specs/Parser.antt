@@ -1,9 +1,9 @@
 -- The command line as it is defined for clap.
-use Rattle.std.specs.Prelude.{Some, List, codes, true, false, map, ◌++◌, option_map}
+use Rattle.std.specs.Prelude.{Bool, Some, List, [], ◌∷◌, codes, true, false, map, ◌++◌, option_map}
 use Rattle.clap.specs.Words.{App, Rule, Shape, new_app, new_rule}
 use Rattle.clap.specs.declared.builder.action.ArgAction.TheVariants.{SetTrue}
 use Rattle.clap.specs.declared.builder.value_parser.ValueParser.TheVariants.{Unsigned}
-use Rattle.command_line.specs.Forms.{Choice, Form, Parameter}
+use Rattle.command_line.specs.Forms.{Choice, Form, Parameter, audit_form, map_form, moved_form, next_form, plan_form, run_form, workers_form, word_form}
 
 -- an argument: it is required, and if it is a number its parser takes the numbers within its bounds
 abbrev pub rule : Parameter → Rule
@@ -40,3 +40,9 @@ bare_program = record (new_app (codes "compressor")) { top = record (asked_of_al
 -- the program with these commands
 abbrev pub program : List Form → App
 program forms = record { top = asked_of_all (new_app (codes "compressor")).top; subs = map (λ form. (command form).top) forms }
+
+-- the commands of the program, for words with `--reachable` and for others
+abbrev pub standing : Bool → List Form
+standing by_reach =
+    plan_form ∷ word_form ∷ run_form (codes "replay") ∷ run_form (codes "race") ∷ workers_form (codes "compact") (codes "DUMP") ∷ audit_form ∷ next_form by_reach
+    ∷ workers_form (codes "mark") (codes "NEW") ∷ workers_form (codes "collect") (codes "NEW") ∷ moved_form ∷ map_form ∷ []

@@ -1,7 +1,7 @@
 //! The options and arguments of the commands.
 ghost use Rattle.std.specs.Prelude.{◌≡◌, false, codes, IfOk};
 ghost use Rattle.clap.specs.Words.{app_of, new_app, rule_of, with_rule, App, Rule};
-ghost use Rattle.command_line.specs.Forms.{dumped, fresh, large, mutators, number, number_within, reachable, roots, switch, text, workers};
+ghost use Rattle.command_line.specs.Forms.{fresh, mutators, named, number_within, path_option, workers};
 ghost use Rattle.command_line.specs.Parser.{option_rule, optional_rule, rule, switch_rule};
 
 use clap::builder::ValueParser;
@@ -70,7 +70,7 @@ pub(crate) fn workers_option<'a>(alloc: Global) -> Arg<'a>
 
 /// The option `--roots`, which takes a path.
 pub(crate) fn roots_option<'a>(alloc: Global) -> Arg<'a>
-    ensures rule { rule_of result ≡ option_rule roots }
+    ensures rule { rule_of result ≡ option_rule (path_option (codes "roots")) }
     ensures local { result.global ≡ false }
 {
     Arg::new(alloc, "roots")
@@ -81,7 +81,7 @@ pub(crate) fn roots_option<'a>(alloc: Global) -> Arg<'a>
 
 /// The option `--dump`, which takes a path.
 pub(crate) fn dump_option<'a>(alloc: Global) -> Arg<'a>
-    ensures rule { rule_of result ≡ option_rule dumped }
+    ensures rule { rule_of result ≡ option_rule (path_option (codes "dump")) }
     ensures local { result.global ≡ false }
 {
     Arg::new(alloc, "dump")
@@ -104,7 +104,7 @@ fn number_option<'a>(alloc: Global, name: &'a str, low: u64, high: u64, help: &'
 
 /// The switch `--large`, which takes no value.
 pub(crate) fn large_switch<'a>(alloc: Global) -> Arg<'a>
-    ensures rule { rule_of result ≡ switch_rule large }
+    ensures rule { rule_of result ≡ switch_rule (named (codes "large")) }
     ensures local { result.global ≡ false }
 {
     switch_of(
@@ -116,7 +116,7 @@ pub(crate) fn large_switch<'a>(alloc: Global) -> Arg<'a>
 
 /// The switch `--reachable`, which takes no value.
 pub(crate) fn reachable_switch<'a>(alloc: Global) -> Arg<'a>
-    ensures rule { rule_of result ≡ switch_rule reachable }
+    ensures rule { rule_of result ≡ switch_rule (named (codes "reachable")) }
     ensures local { result.global ≡ false }
 {
     switch_of(
@@ -128,7 +128,7 @@ pub(crate) fn reachable_switch<'a>(alloc: Global) -> Arg<'a>
 
 /// A switch of this name and help, which takes no value.
 pub(crate) fn switch_of<'a>(alloc: Global, name: &'a str, help: &'a str) -> Arg<'a>
-    ensures rule { rule_of result ≡ switch_rule (switch name.entry.now) }
+    ensures rule { rule_of result ≡ switch_rule (named name.entry.now) }
     ensures local { result.global ≡ false }
 {
     Arg::new(alloc, name)
@@ -139,7 +139,7 @@ pub(crate) fn switch_of<'a>(alloc: Global, name: &'a str, help: &'a str) -> Arg<
 
 /// The argument `IMAGE`, a path.
 pub(crate) fn image_argument<'a>(alloc: Global) -> Arg<'a>
-    ensures rule { rule_of result ≡ rule (text (codes "IMAGE")) }
+    ensures rule { rule_of result ≡ rule (named (codes "IMAGE")) }
     ensures local { result.global ≡ false }
 {
     path_argument(alloc, "IMAGE", "The heap's image")
@@ -147,7 +147,7 @@ pub(crate) fn image_argument<'a>(alloc: Global) -> Arg<'a>
 
 /// The argument `INDEX`, a number of 64 bits.
 pub(crate) fn index_argument<'a>(alloc: Global) -> Arg<'a>
-    ensures rule { rule_of result ≡ rule (number (codes "INDEX")) }
+    ensures rule { rule_of result ≡ rule (number_within (codes "INDEX") 0 18446744073709551615) }
     ensures local { result.global ≡ false }
 {
     Arg::new(alloc, "INDEX")
@@ -158,7 +158,7 @@ pub(crate) fn index_argument<'a>(alloc: Global) -> Arg<'a>
 
 /// The argument `TRACE`, a path.
 pub(crate) fn trace_argument<'a>(alloc: Global) -> Arg<'a>
-    ensures rule { rule_of result ≡ rule (text (codes "TRACE")) }
+    ensures rule { rule_of result ≡ rule (named (codes "TRACE")) }
     ensures local { result.global ≡ false }
 {
     path_argument(alloc, "TRACE", "The trace")
@@ -166,7 +166,7 @@ pub(crate) fn trace_argument<'a>(alloc: Global) -> Arg<'a>
 
 /// The argument `DUMP`, a path.
 pub(crate) fn dump_argument<'a>(alloc: Global) -> Arg<'a>
-    ensures rule { rule_of result ≡ rule (text (codes "DUMP")) }
+    ensures rule { rule_of result ≡ rule (named (codes "DUMP")) }
     ensures local { result.global ≡ false }
 {
     path_argument(alloc, "DUMP", "Where the dump is written")
@@ -174,7 +174,7 @@ pub(crate) fn dump_argument<'a>(alloc: Global) -> Arg<'a>
 
 /// The argument `NEW`, a path.
 pub(crate) fn new_argument<'a>(alloc: Global) -> Arg<'a>
-    ensures rule { rule_of result ≡ rule (text (codes "NEW")) }
+    ensures rule { rule_of result ≡ rule (named (codes "NEW")) }
     ensures local { result.global ≡ false }
 {
     path_argument(alloc, "NEW", "Where the new image is written")
@@ -182,7 +182,7 @@ pub(crate) fn new_argument<'a>(alloc: Global) -> Arg<'a>
 
 /// An argument of this name and help, a path.
 pub(crate) fn path_argument<'a>(alloc: Global, name: &'a str, help: &'a str) -> Arg<'a>
-    ensures rule { rule_of result ≡ rule (text name.entry.now) }
+    ensures rule { rule_of result ≡ rule (named name.entry.now) }
     ensures local { result.global ≡ false }
 {
     Arg::new(alloc, name).required(true).help(help)

@@ -4,7 +4,6 @@ ghost use Rattle.clap.specs.Words.{app_of, found_of};
 ghost use Rattle.command_line.specs.ParserFinds.{IsAuditFound, IsAuditRequest};
 ghost use Rattle.command_line.specs.Forms.{audit_form};
 ghost use Rattle.command_line.specs.Parser.{command as command_of};
-ghost use Rattle.command_line.specs.RunArguments.{audit_of};
 
 use crate::arguments::{
     Made, image_argument, large_switch, named_command, path_argument, switch_of, with_argument,
@@ -33,7 +32,7 @@ pub struct AuditRun<'a> {
 /// The arguments of `audit` in what the parser found.
 pub(crate) fn audit_run<'a>(found: &ArgMatches<'a>) -> AuditRun<'a>
     requires { IsAuditRequest (found_of found.now) }
-    ensures { IsAuditFound (found_of found.now) (audit_of result) }
+    ensures { IsAuditFound (found_of found.now) result }
 {
     AuditRun {
         image: text_of(found, "IMAGE"),

@@ -2,8 +2,8 @@
 ghost use Rattle.std.specs.Prelude.{◌≡◌, IfOk};
 ghost use Rattle.clap.specs.Words.{app_of, found_of};
 ghost use Rattle.command_line.specs.Forms.{map_form};
-ghost use Rattle.command_line.specs.Maps.{map_of, IsMapFound, IsMapRequest};
 ghost use Rattle.command_line.specs.Parser.{command as command_of};
+ghost use Rattle.command_line.specs.ParserFinds.{IsMapFound, IsMapRequest};
 
 use crate::arguments::{
     Made, dump_option, image_argument, large_switch, named_command, path_argument, with_argument,
@@ -28,7 +28,7 @@ pub struct MapRun<'a> {
 /// The arguments of `map` in what the parser found.
 pub(crate) fn map_run<'a>(found: &ArgMatches<'a>) -> MapRun<'a>
     requires { IsMapRequest (found_of found.now) }
-    ensures { IsMapFound (found_of found.now) (map_of result) }
+    ensures { IsMapFound (found_of found.now) result }
 {
     MapRun {
         image: text_of(found, "IMAGE"),

@@ -1,10 +1,11 @@
 //! The command `next`.
 ghost use Rattle.std.specs.Prelude.{◌≡◌, ◌≤◌, codes, false, is_some, map, true, IfOk, IfSome};
 ghost use Rattle.std.specs.String.{string_bytes};
-ghost use Rattle.clap.specs.Words.{app_of, first_value, found_of, new_app, one_text, rule_of, with_rule, App};
-ghost use Rattle.command_line.specs.Forms.{large, next_form, reachable, text, workers};
+ghost use Rattle.clap.specs.Words.{app_of, first_value, found_of, new_app, one_text, with_rule, App};
+ghost use Rattle.command_line.specs.AskedTasks.{IsCount};
+ghost use Rattle.command_line.specs.Forms.{named, next_form, workers};
 ghost use Rattle.command_line.specs.Given.{Takes};
-ghost use Rattle.command_line.specs.NextArguments.{marks_path, next_of, roots_path, says_reachable, AreWorkersFound, HasNext, IsLawfulNext, IsMarksFound, IsNextFound, IsRootsFound};
+ghost use Rattle.command_line.specs.NextArguments.{says_reachable, AreMarksFound, AreWorkersFound, HasNext, IsNextFound};
 ghost use Rattle.command_line.specs.Parser.{command as command_of, rule, switch_rule};
 
 use crate::arguments::{
@@ -71,8 +72,7 @@ pub(crate) fn says_reachable(words: &[String]) -> bool
 // The marks, or the roots that mark, in what the parser found.
 fn marks_of<'a>(found: &ArgMatches<'a>, reaches: bool) -> NextMarks<'a>
     requires { reaches ≡ false → is_some (first_value (found_of found.now) (codes "MARKS")) ≡ true }
-    ensures marks { IsMarksFound reaches (found_of found.now) (marks_path result) }
-    ensures roots { IsRootsFound reaches (found_of found.now) (roots_path result) }
+    ensures { AreMarksFound reaches (found_of found.now) result }
 {
     if reaches {
         match found.get_str("roots") {
@@ -88,7 +88,7 @@ fn marks_of<'a>(found: &ArgMatches<'a>, reaches: bool) -> NextMarks<'a>
 fn workers_of(found: &ArgMatches, reaches: bool) -> u8
     requires { reaches ≡ true → IfSome (one_text (found_of found.now) (codes "workers")) (Takes workers.takes) }
     ensures found { AreWorkersFound reaches (found_of found.now) result }
-    ensures within { (1 ≤ result) × (result ≤ 64) }
+    ensures within { IsCount result }
 {
     if reaches {
         count_of(found, "workers", DEFAULT_WORKERS) as u8
@@ -100,8 +100,8 @@ fn workers_of(found: &ArgMatches, reaches: bool) -> u8
 /// The arguments of `next` in what the parser found, with `--reachable` or without it.
 pub(crate) fn next_run<'a>(found: &ArgMatches<'a>, reaches: bool) -> NextRun<'a>
     requires { HasNext reaches (found_of found.now) }
-    ensures run { IsNextFound reaches (found_of found.now) (next_of result) }
-    ensures counts { IsLawfulNext (next_of result) }
+    ensures run { IsNextFound reaches (found_of found.now) result }
+    ensures counts { IsCount result.mutators × (result.fresh ≤ 4096) × IsCount result.workers }
 {
     NextRun {
         image: text_of(found, "IMAGE"),
@@ -147,8 +147,8 @@ fn bare_next<'a>(alloc: Global) -> Made<'a>
 
 // Adds the switches of `next`, and the two arguments that both of its forms have.
 fn with_inputs<'a>(alloc: Global, command: Made<'a>) -> Made<'a>
-    ensures { (app : App) → IfOk command.entry (λ made. app_of made ≡ app) → IfOk result (λ made. app_of made ≡ with_rule (with_rule (with_rule (with_rule app (switch_rule large)) (switch_rule reachable))
-        (rule (text (codes "IMAGE")))) (rule (text (codes "TRACE")))) }
+    ensures { (app : App) → IfOk command.entry (λ made. app_of made ≡ app) → IfOk result (λ made. app_of made ≡ with_rule (with_rule (with_rule (with_rule app (switch_rule (named (codes "large")))) (switch_rule (named (codes "reachable"))))
+        (rule (named (codes "IMAGE")))) (rule (named (codes "TRACE")))) }
 {
     let of_large = with_argument(command, large_switch(alloc));
     let of_switches = with_argument(of_large, reachable_switch(alloc));

@@ -1,7 +1,8 @@
 //! The values that the parser found for a command.
 ghost use Rattle.std.specs.Prelude.{◌≡◌, ℕ, true, codes, is_some, Some, IsSomeAnd, IfSome};
 ghost use Rattle.clap.specs.Words.{first_value, found_of, one_text};
-ghost use Rattle.command_line.specs.Given.{IsFlag, IsNumber, IsNumberOr};
+ghost use Rattle.command_line.specs.Given.{IsNumber, IsNumberOr};
+ghost use Rattle.command_line.specs.ParserFinds.{IsFlag};
 
 use clap::ArgMatches;
 

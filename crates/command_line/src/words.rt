@@ -1,14 +1,13 @@
 //! The words of the command line.
-ghost use Rattle.std.specs.Prelude.{◌≡◌, ◌≢◌, ◌⊎◌, [], true, map, IfOk, IfErr};
+ghost use Rattle.std.specs.Prelude.{◌≡◌, ◌≢◌, ◌≤◌, ◌⊎◌, [], codes, true, map, IfOk, IfErr};
 ghost use Rattle.std.specs.String.{string_bytes};
 ghost use Rattle.clap.specs.Words.{app_of, fault_of, found_of, kind_of, subcommand_of, subcommand_rows_of, with_subcommand, App};
 ghost use Rattle.clap.specs.declared.error.kind.ErrorKind.TheVariants.{DisplayHelp, DisplayVersion, OutOfMemory};
-ghost use Rattle.command_line.specs.AskedTasks.{Asks, AsksNoCommand, HasLawfulCounts, IsAnswerOf};
-ghost use Rattle.command_line.specs.Forms.{collect_form, compact_form, mark_form, moved_form, plan_form, race_form, replay_form, run_form, standing, word_form};
-ghost use Rattle.command_line.specs.ParserFinds.{IsRunRequest, IsRunFound};
+ghost use Rattle.command_line.specs.AskedTasks.{Asks, AsksNoCommand, HasLawfulCounts, IsCount};
+ghost use Rattle.command_line.specs.Forms.{moved_form, plan_form, run_form, workers_form, word_form};
+ghost use Rattle.command_line.specs.ParserFinds.{IsAnswerOf, IsRunFound, IsRunRequest};
 ghost use Rattle.command_line.specs.NextArguments.{says_reachable};
-ghost use Rattle.command_line.specs.Parser.{bare_program, command as command_of, program};
-ghost use Rattle.command_line.specs.RunArguments.{IsLawfulRun, run_of};
+ghost use Rattle.command_line.specs.Parser.{bare_program, command as command_of, program, standing};
 
 use crate::arguments::{
     Made, dump_argument, fresh_option, image_argument, index_argument, large_switch,
@@ -195,8 +194,8 @@ fn task_of<'a>(words: &'a [String], matches: &ArgMatches<'a>, reaches: bool) -> 
 // The arguments of `replay` or `race` in what the parser found.
 fn trace_run<'a>(found: &ArgMatches<'a>) -> TraceRun<'a>
     requires { IsRunRequest (found_of found.now) }
-    ensures run { IsRunFound (found_of found.now) (run_of result) }
-    ensures counts { IsLawfulRun (run_of result) }
+    ensures run { IsRunFound (found_of found.now) result }
+    ensures counts { IsCount result.mutators × (result.fresh ≤ 4096) }
 {
     TraceRun {
         image: text_of(found, "IMAGE"),
@@ -288,7 +287,7 @@ fn word_command<'a>(alloc: Global) -> Made<'a>
 
 // The command `replay`, as defined for clap.
 fn replay_command<'a>(alloc: Global) -> Made<'a>
-    ensures { IfOk result (λ made. app_of made ≡ command_of replay_form) }
+    ensures { IfOk result (λ made. app_of made ≡ command_of (run_form (codes "replay"))) }
 {
     run_command(
         alloc,
@@ -299,7 +298,7 @@ fn replay_command<'a>(alloc: Global) -> Made<'a>
 
 // The command `race`, as defined for clap.
 fn race_command<'a>(alloc: Global) -> Made<'a>
-    ensures { IfOk result (λ made. app_of made ≡ command_of race_form) }
+    ensures { IfOk result (λ made. app_of made ≡ command_of (run_form (codes "race"))) }
 {
     run_command(
         alloc,
@@ -323,7 +322,7 @@ fn run_command<'a>(alloc: Global, name: &'a str, about: &'a str) -> Made<'a>
 
 // The command `compact`, as defined for clap.
 fn compact_command<'a>(alloc: Global) -> Made<'a>
-    ensures { IfOk result (λ made. app_of made ≡ command_of compact_form) }
+    ensures { IfOk result (λ made. app_of made ≡ command_of (workers_form (codes "compact") (codes "DUMP"))) }
 {
     let compact = named_command(
         alloc,
@@ -338,7 +337,7 @@ fn compact_command<'a>(alloc: Global) -> Made<'a>
 
 // The command `mark`, as defined for clap.
 fn mark_command<'a>(alloc: Global) -> Made<'a>
-    ensures { IfOk result (λ made. app_of made ≡ command_of mark_form) }
+    ensures { IfOk result (λ made. app_of made ≡ command_of (workers_form (codes "mark") (codes "NEW"))) }
 {
     let mark = named_command(
         alloc,
@@ -353,7 +352,7 @@ fn mark_command<'a>(alloc: Global) -> Made<'a>
 
 // The command `collect`, as defined for clap.
 fn collect_command<'a>(alloc: Global) -> Made<'a>
-    ensures { IfOk result (λ made. app_of made ≡ command_of collect_form) }
+    ensures { IfOk result (λ made. app_of made ≡ command_of (workers_form (codes "collect") (codes "NEW"))) }
 {
     let collect = named_command(
         alloc,

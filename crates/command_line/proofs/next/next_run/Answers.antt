@@ -19,8 +19,7 @@ pub returns-clause-run : goal.returns-clause-run
 returns-clause-run c = record {
   image_is = c.text_of.ensures;
   trace_is = c.text_of-2.ensures;
-  marks_are = c.marks_of.ensures.marks;
-  roots_are = c.marks_of.ensures.roots;
+  marks_are = c.marks_of.ensures;
   new_is = c.text_of-3.ensures;
   mutators_are = c.count_of.ensures;
   fresh_are = c.count_of-2.ensures;
@@ -31,10 +30,4 @@ returns-clause-run c = record {
 pub returns-clause-counts : goal.returns-clause-counts
 returns-clause-counts c =
     let count = mutators_within (found_of c.args.found.now) c.requires.fits_mutators c.count_of.result c.count_of.ensures in
-    record {
-      some = count.0;
-      few = count.1;
-      within = fresh_within (found_of c.args.found.now) c.requires.fits_fresh c.count_of-2.result c.count_of-2.ensures;
-      some_workers = c.workers_of.ensures.within.0;
-      few_workers = c.workers_of.ensures.within.1;
-    }
+    (count, fresh_within (found_of c.args.found.now) c.requires.fits_fresh c.count_of-2.result c.count_of-2.ensures, c.workers_of.ensures.within)

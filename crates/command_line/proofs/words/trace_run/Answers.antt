@@ -28,8 +28,4 @@ returns-clause-run c = record {
 pub returns-clause-counts : goal.returns-clause-counts
 returns-clause-counts c =
     let count = mutators_within (found_of c.args.found.now) c.requires.fits_mutators c.count_of.result c.count_of.ensures in
-    record {
-      some = count.0;
-      few = count.1;
-      within = fresh_within (found_of c.args.found.now) c.requires.fits_fresh c.count_of-2.result c.count_of-2.ensures;
-    }
+    (count, fresh_within (found_of c.args.found.now) c.requires.fits_fresh c.count_of-2.result c.count_of-2.ensures)
