@@ -9,7 +9,8 @@ use Rattle.comp_dump.specs.DumpReading.{CountsFailure}
 use Rattle.heap_layout.specs.Writing.{AppendsSome}
 use Rattle.comp_dump.specs.declared.fault.DumpFault.{DumpFault}
 use Rattle.comp_dump.specs.declared.fault.DumpFault.TheVariants as dumps
-use Rattle.command_io.specs.Disk.{AfterCreating, Disk, IsOfCreating, IsUnkept, WritesBeginning, WritesWhole}
+use Rattle.command_io.specs.Disk.{Disk, IsUnkept, WritesBeginning, WritesWhole}
+use Rattle.command_io.specs.Calls.{AfterCreating, IsOfCreating}
 use Rattle.command_io.specs.KeptFiles.{FailsFlush, KeepsAll}
 use Rattle.command_io.specs.declared.refusal.Output.{Output}
 use Rattle.command_io.specs.declared.refusal.CommandRefusal.{CommandRefusal}

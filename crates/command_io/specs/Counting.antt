@@ -1,6 +1,5 @@
 -- Files of which it is known how many calls failed.
 use Rattle.std.specs.Prelude.{◌≡◌, ℕ, ◌+◌, ◌-◌, ◌^◌, min, None}
-use Rattle.std.proofs.Common.{subst}
 use Rattle.heap_layout.specs.Counted.{failures_of}
 use Rattle.command_io.specs.Disk.{Disk}
 
@@ -20,7 +19,3 @@ counting failures files = record {
   puts = λ _ _ written to. failures to ≡ more_by (failures files) (failures_of written);
   counts = λ n to. failures to ≡ more_by (failures files) n;
 }
-
--- what is counted once a file was begun is counted in the files as they were: beginning one counts no call
-pub counted_once_begun : {F : Type 0} (failures : F → ℕ) (from between to : F) (n : ℕ) → failures between ≡ failures from → failures to ≡ more_by (failures between) n → failures to ≡ more_by (failures from) n
-counted_once_begun failures from between to n same counted = subst (λ (m : ℕ). failures to ≡ more_by m n) same counted

@@ -1,5 +1,5 @@
 -- What is known of the files that a command reads and makes.
-use Rattle.std.specs.Prelude.{◌≡◌, ◌⊎◌, ℕ, Bool, true, false, MatchBool, List, Option, None, Result, Ok, Err}
+use Rattle.std.specs.Prelude.{◌≡◌, ◌⊎◌, ℕ, Bool, true, false, MatchBool, List, Option}
 use Rattle.std.specs.Io.KnownBytes.{Appends}
 use Rattle.heap_layout.specs.Counted.{failures_of, inner_of}
 use Rattle.heap_layout.specs.declared.counted.Counted.{Counted}
@@ -8,6 +8,7 @@ use Rattle.heap_layout.specs.Writing.{AppendsSome}
 use Rattle.comp_dump.specs.declared.fault.DumpFault.TheVariants as dumps
 use Rattle.command_io.specs.declared.refusal.Input.{Input}
 use Rattle.command_io.specs.declared.refusal.Output.{Output}
+use Rattle.command_io.specs.declared.refusal.Output.TheVariants as outputs
 use Rattle.command_io.specs.declared.refusal.CommandRefusal.{CommandRefusal}
 use Rattle.command_io.specs.declared.refusal.CommandRefusal.TheVariants.{CannotCreate, CannotOpen, CannotPrint, CannotWrite, Dump, Layout, OutOfMemory, ReadFailed}
 
@@ -30,20 +31,6 @@ pub record Disk (F W : Type 0) : Type 1 where
   -- these are the files once so many calls of what they gave have failed, and nothing was kept
   pub counts : ℕ → F → Type 0
 
--- files of which nothing is known: anything may be read at a path, any writer may be given, any path may give none, and
--- a file that is begun or kept may change anything
-abbrev pub unknown : {F W : Type 0} → Disk F W
-unknown = record {
-  holds = λ _ _ _. Unit {0};
-  lacks = λ _ _. Unit {0};
-  makes = λ _ _ _. Unit {0};
-  bars = λ _ _. Unit {0};
-  contents = λ _. None;
-  begins = λ _. Unit {0};
-  puts = λ _ _ _ _. Unit {0};
-  counts = λ _ _. Unit {0};
-}
-
 -- P holds of the bytes of some file that can be read at the path
 abbrev pub SomeFile : {F W : Type 0} → Disk F W → Input → List ℕ → (Option (List ℕ) → Type 0) → Type 0
 SomeFile disk input path P = (known : Option (List ℕ)) × disk.holds input path known × P known
@@ -54,11 +41,10 @@ IsOfOpening input lacks (CannotOpen named) = (named ≡ input) × lacks
 IsOfOpening input lacks OutOfMemory = Unit {0}
 IsOfOpening input lacks _ = ⊥
 
--- why this file could not be created: there is no place for it, as `bars` says, or memory ran out
-abbrev pub IsOfCreating : Output → Type 0 → CommandRefusal → Type 0
-IsOfCreating output bars (CannotCreate named) = (named ≡ output) × bars
-IsOfCreating output bars OutOfMemory = Unit {0}
-IsOfCreating output bars _ = ⊥
+-- why nothing was read from the file at a path: it could not be opened, or P gives the reason, by the bytes of some
+-- file that can be read there
+abbrev pub RefusesFile : {F W : Type 0} → Disk F W → Input → List ℕ → (CommandRefusal → Option (List ℕ) → Type 0) → CommandRefusal → Type 0
+RefusesFile disk input path P refusal = IsOfOpening input (disk.lacks input path) refusal ⊎ SomeFile disk input path (P refusal)
 
 -- whether a refusal names a failed call of a file: one that opens it, creates it, reads it or writes it
 abbrev pub names_failure : CommandRefusal → Bool
@@ -74,16 +60,6 @@ names_failure _ = false
 -- were
 abbrev pub LeavesCounted : {F W : Type 0} → Disk F W → F → F → CommandRefusal → Type 0
 LeavesCounted disk from to refusal = MatchBool (names_failure refusal) (disk.counts 1 to) (to ≡ from)
-
--- what opening or reading a file left of the files: they are as they were, but for a failed call that a refusal names
-abbrev pub LeavesRead : {T F W : Type 0} → Disk F W → F → F → Result T CommandRefusal → Type 0
-LeavesRead disk from to (Ok _) = to ≡ from
-LeavesRead disk from to (Err refusal) = LeavesCounted disk from to refusal
-
--- what creating a file left of the files: it was begun, or a call failed, or memory ran out before there was a file
-abbrev pub AfterCreating : {F W : Type 0} → Disk F W → F → Result W CommandRefusal → Type 0
-AfterCreating disk to (Err (CannotCreate _)) = disk.counts 1 to
-AfterCreating disk to _ = disk.begins to
 
 -- some writer that the path gives took all these bytes, and no call of it failed; all that it took was kept at the
 -- path, and these are the files since
@@ -108,11 +84,16 @@ pub record WritesBeginning {F W : Type 0} (disk : Disk F W) (output : Output) (p
 abbrev pub IsUnkept : {F W : Type 0} → Disk F W → F → F → Type 0
 IsUnkept disk from to = (to ≡ from) ⊎ disk.begins to
 
--- What a refused call that may make a file left of the files: they have counted the failed call that it names. If it
--- names none, they are as they were; but if memory ran out, a file may have been begun, and not kept; and if a call of
--- the output failed, the cause says what was kept.
-abbrev pub RefusedUnmade : {T F W : Type 0} → Disk F W → F → F → Result T CommandRefusal → Type 0
-RefusedUnmade disk from to (Ok _) = Unit {0}
-RefusedUnmade disk from to (Err CannotPrint) = Unit {0}
-RefusedUnmade disk from to (Err OutOfMemory) = IsUnkept disk from to
-RefusedUnmade disk from to (Err refusal) = LeavesCounted disk from to refusal
+-- how a file is refused of which a call of the writer failed
+abbrev pub unwritten : Output → CommandRefusal
+unwritten outputs.Dump = Dump dumps.Device
+unwritten outputs.New = Layout layouts.Device
+unwritten outputs.Map = CannotWrite outputs.Map
+
+-- Why a file of these bytes was not made: there is no place for it, or a call of its writer failed, which the files
+-- have counted; or memory ran out, and no file was kept.
+abbrev pub IsOfMaking : {F W : Type 0} → Disk F W → Output → List ℕ → List ℕ → F → F → CommandRefusal → Type 0
+IsOfMaking disk output path bytes from to refusal =
+    ((refusal ≡ CannotCreate output) × disk.bars output path × disk.counts 1 to)
+    ⊎ (((refusal ≡ unwritten output) × WritesBeginning disk output path bytes to)
+    ⊎ ((refusal ≡ OutOfMemory) × IsUnkept disk from to))

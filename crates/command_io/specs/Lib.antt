@@ -5,11 +5,8 @@ pub mod KeptFiles
 pub mod Printing
 pub mod Reading
 pub mod Images
-pub mod PartsAtPath
-pub mod Dumps
+pub mod MadeFiles
 pub mod Memory
 pub mod Texts
-pub mod MarksAtPath
-pub mod RootsAtPath
-pub mod NewImages
-pub mod Pictures
+pub mod Naming
+pub mod Calls

@@ -1,4 +1,4 @@
--- What is known of files in memory.
+-- What is known of files in memory; and files of which nothing is known.
 use Rattle.std.specs.Prelude.{◌≡◌, ◌≢◌, ℕ, List, [], ◌∷◌, Option, None, Some, Vec, if◌then◌else◌}
 use Rattle.std.specs.Global.{Global}
 use Rattle.std.proofs.Common.{subst}
@@ -10,6 +10,20 @@ use Rattle.command_io.specs.Disk.{Disk, WritesWhole}
 use Rattle.command_io.specs.declared.refusal.Output.{Output}
 use Rattle.command_io.specs.declared.memory.MemoryFile.{MemoryFile}
 use Rattle.command_io.specs.declared.memory.MemoryFiles.{MemoryFiles}
+
+-- files of which nothing is known: anything may be read at a path, any writer may be given, any path may give none, and
+-- a file that is begun or kept may change anything
+abbrev pub unknown : {F W : Type 0} → Disk F W
+unknown = record {
+  holds = λ _ _ _. Unit {0};
+  lacks = λ _ _. Unit {0};
+  makes = λ _ _ _. Unit {0};
+  bars = λ _ _. Unit {0};
+  contents = λ _. None;
+  begins = λ _. Unit {0};
+  puts = λ _ _ _ _. Unit {0};
+  counts = λ _ _. Unit {0};
+}
 
 -- the bytes of the first of these files that is at the path
 abbrev pub bytes_in : List MemoryFile → List ℕ → Option (List ℕ)

@@ -1,29 +1,9 @@
--- What is printed, and what a refused call leaves of the output.
-use Rattle.std.specs.Prelude.{◌≡◌, ℕ, ◌+◌, Bool, true, List, [], ◌∷◌, ◌++◌, Option, Result, Ok, Err, codes}
+-- What is printed, and what a refusal leaves of the output.
+use Rattle.std.specs.Prelude.{◌≡◌, ℕ, ◌+◌, Bool, true, List, ◌∷◌, [], ◌++◌, Result, Ok, Err, codes}
 use Rattle.std.specs.Fmt.{decimal}
-use Rattle.std.specs.Io.KnownBytes.{Keeps}
 use Rattle.std.specs.Str.{trim_end}
-use Rattle.command_io.specs.declared.refusal.Input.{Input}
-use Rattle.command_io.specs.declared.refusal.Input.TheVariants.{Image, Trace, Dump, Marks, Roots, Moved}
-use Rattle.command_io.specs.declared.refusal.Output.{Output}
-use Rattle.command_io.specs.declared.refusal.Output.TheVariants as outputs
 use Rattle.command_io.specs.declared.refusal.CommandRefusal.{CommandRefusal}
 use Rattle.command_io.specs.declared.refusal.CommandRefusal.TheVariants.{CannotPrint}
-
--- the name of a file that is read, in refusals
-abbrev pub input_name : Input → List ℕ
-input_name Image = codes "image"
-input_name Trace = codes "trace"
-input_name Dump = codes "dump"
-input_name Marks = codes "marks"
-input_name Roots = codes "roots"
-input_name Moved = codes "moved"
-
--- the name of a file that is made
-abbrev pub output_name : Output → List ℕ
-output_name outputs.Dump = codes "dump"
-output_name outputs.New = codes "new"
-output_name outputs.Map = codes "map"
 
 -- a number as it is printed: its decimal digits and a line feed
 abbrev pub line_of : ℕ → List ℕ
@@ -50,12 +30,6 @@ abbrev pub CountsPrint : {T : Type 0} → ℕ → ℕ → Result T CommandRefusa
 CountsPrint before after (Ok _) = after ≡ before
 CountsPrint before after (Err CannotPrint) = after ≡ before + 1
 CountsPrint before after (Err _) = after ≡ before
-
--- a refused call left the output as it was, unless a call of the output failed
-abbrev pub RefusedUnprinted : {T : Type 0} → Option (List ℕ) → Option (List ℕ) → Result T CommandRefusal → Type 0
-RefusedUnprinted before after (Ok _) = Unit {0}
-RefusedUnprinted before after (Err CannotPrint) = Unit {0}
-RefusedUnprinted before after (Err _) = Keeps before after
 
 -- a refusal for another cause than the output leaves an output flushed that was flushed before: whatever was printed
 -- for it was flushed

@@ -1,13 +1,14 @@
--- What is known of the trace at a path, and of any text that is read whole.
-use Rattle.std.specs.Prelude.{◌≡◌, ℕ, ◌+◌, List, Option, IfSome, Result, Ok, Err}
+-- What is known of the texts at paths: a trace, marks and roots.
+use Rattle.std.specs.Prelude.{◌≡◌, ℕ, List, Option, IfSome, Ok, Err}
 use Rattle.comp_trace.specs.Grammar.{trace_of, IsReadAs}
+use Rattle.comp_trace.specs.MarksText.{marks_of}
+use Rattle.comp_trace.specs.RootsText.{new_roots_of}
 use Rattle.comp_trace.specs.declared.text.line.Line.{Line}
+use Rattle.comp_trace.specs.declared.text.roots.NewRoot.{NewRoot}
 use Rattle.command_io.specs.Disk.{Disk, SomeFile}
 use Rattle.command_io.specs.declared.refusal.Input.TheVariants as inputs
 use Rattle.command_io.specs.declared.refusal.CommandRefusal.{CommandRefusal}
-use Rattle.command_io.specs.declared.refusal.CommandRefusal.TheVariants.{CannotOpen, OutOfMemory, ReadFailed, Trace}
-use Rattle.command_io.specs.declared.texts.Unread.{Unread}
-use Rattle.command_io.specs.declared.texts.Unread.TheVariants as unread
+use Rattle.command_io.specs.declared.refusal.CommandRefusal.TheVariants.{BadMarks, BadRoots, OutOfMemory, ReadFailed, Trace}
 
 -- P holds of some text; the bytes of the file, if they are known, are this text
 abbrev pub SomeText : (List ℕ → Type 0) → Option (List ℕ) → Type 0
@@ -17,33 +18,34 @@ SomeText P known = (text : List ℕ) × IfSome known (λ bytes. bytes ≡ text) 
 abbrev pub HasLines : ℕ → ℕ → List Line → List ℕ → Type 0
 HasLines mutators roots lines text = trace_of mutators roots text ≡ Ok lines
 
--- the trace has these lines
-abbrev pub IsTextOf : ℕ → ℕ → List Line → Option (List ℕ) → Type 0
-IsTextOf mutators roots lines known = SomeText (HasLines mutators roots lines) known
+-- some trace that can be read at the path has these lines
+abbrev pub HasLinesAt : {F W : Type 0} → Disk F W → List ℕ → ℕ → ℕ → List Line → Type 0
+HasLinesAt disk path mutators roots lines = SomeFile disk inputs.Trace path (SomeText (HasLines mutators roots lines))
 
--- the text is no trace, for its first fault; or a call of the reader failed, or memory ran out
+-- the text is no trace, for its first fault; or a call of the reader failed
 abbrev pub RefusesText : ℕ → ℕ → CommandRefusal → Option (List ℕ) → Type 0
 RefusesText mutators roots (ReadFailed inputs.Trace) known = Unit {0}
 RefusesText mutators roots (Trace fault) known = SomeText (λ text. IsReadAs {A = List Line} (λ lines. lines) (Err fault) (trace_of mutators roots text)) known
 RefusesText mutators roots _ known = ⊥
 
--- P holds of the text of some trace that can be read at the path
-abbrev pub SomeTextAt : {F W : Type 0} → Disk F W → List ℕ → (List ℕ → Type 0) → Type 0
-SomeTextAt disk path P = SomeFile disk inputs.Trace path (SomeText P)
+-- some marks that can be read at the path are these
+abbrev pub AreMarksAt : {F W : Type 0} → Disk F W → List ℕ → List ℕ → Type 0
+AreMarksAt disk path marks = SomeFile disk inputs.Marks path (SomeText (λ text. marks_of text ≡ Ok marks))
 
--- some trace that can be read at the path has these lines
-abbrev pub HasLinesAt : {F W : Type 0} → Disk F W → List ℕ → ℕ → ℕ → List Line → Type 0
-HasLinesAt disk path mutators roots lines = SomeFile disk inputs.Trace path (IsTextOf mutators roots lines)
+-- this line of the text is the first that is no mark; or a call of the reader failed, or memory ran out
+abbrev pub RefusesMarksText : CommandRefusal → Option (List ℕ) → Type 0
+RefusesMarksText (ReadFailed inputs.Marks) known = Unit {0}
+RefusesMarksText (BadMarks n) known = SomeText (λ text. marks_of text ≡ Err n) known
+RefusesMarksText OutOfMemory known = Unit {0}
+RefusesMarksText _ known = ⊥
 
--- why there is no trace: there is none at the path, or memory ran out, or the text of some trace that can be read there
--- is refused
-abbrev pub RefusesTextAt : {F W : Type 0} → Disk F W → List ℕ → ℕ → ℕ → CommandRefusal → Type 0
-RefusesTextAt disk path mutators roots (CannotOpen inputs.Trace) = disk.lacks inputs.Trace path
-RefusesTextAt disk path mutators roots OutOfMemory = Unit {0}
-RefusesTextAt disk path mutators roots refusal = SomeFile disk inputs.Trace path (RefusesText mutators roots refusal)
+-- some roots that can be read at the path are these
+abbrev pub AreRootsAt : {F W : Type 0} → Disk F W → List ℕ → ℕ → List NewRoot → Type 0
+AreRootsAt disk path mutators roots = SomeFile disk inputs.Roots path (SomeText (λ text. new_roots_of mutators text ≡ Ok roots))
 
--- one more call of the reader failed if the answer is `Failed`, and otherwise none
-abbrev pub CountsUnread : {T : Type 0} → ℕ → ℕ → Result T Unread → Type 0
-CountsUnread before after (Ok _) = after ≡ before
-CountsUnread before after (Err unread.Failed) = after ≡ before + 1
-CountsUnread before after (Err unread.OutOfMemory) = after ≡ before
+-- this line of the text is the first that is no root; or a call of the reader failed, or memory ran out
+abbrev pub RefusesRootsText : ℕ → CommandRefusal → Option (List ℕ) → Type 0
+RefusesRootsText mutators (ReadFailed inputs.Roots) known = Unit {0}
+RefusesRootsText mutators (BadRoots n) known = SomeText (λ text. new_roots_of mutators text ≡ Err n) known
+RefusesRootsText mutators OutOfMemory known = Unit {0}
+RefusesRootsText mutators _ known = ⊥

@@ -2,10 +2,11 @@
 ghost use Rattle.std.specs.Prelude.{◌≡◌, ◌-◌, ◌^◌, ◌<◌, IfOk, IfErr};
 ghost use Rattle.heap_layout.specs.Counted.{inner_of, failures_of};
 ghost use Rattle.heap_layout.specs.ImageParts.{heap_in};
-ghost use Rattle.command_io.specs.Disk.{LeavesRead};
-ghost use Rattle.command_io.specs.Images.{IsHeapAt, IsImageOf, RefusesAt, RefusesImage};
-ghost use Rattle.command_io.specs.PartsAtPath.{ArePartsAt, ArePartsOf, RefusesImageParts};
+ghost use Rattle.command_io.specs.Disk.{RefusesFile};
+ghost use Rattle.command_io.specs.Calls.{LeavesRead};
+ghost use Rattle.command_io.specs.Images.{ArePartsAt, ArePartsOf, IsHeapAt, IsImageOf, RefusesImage, RefusesImageParts};
 ghost use Rattle.command_io.specs.Reading.{CountsRead};
+ghost use Rattle.command_io.specs.declared.refusal.Input.TheVariants as inputs;
 
 use crate::opening::Files;
 use crate::reading::end_reading;
@@ -24,7 +25,7 @@ pub fn heap_at<F: Files>(
     large: bool,
 ) -> Result<MarkedHeap, CommandRefusal>
     ensures heap { IfOk result (IsHeapAt (F.disk files.old) large path.now) }
-    ensures cause { IfErr result (RefusesAt (F.disk files.old) large path.now RefusesImage) }
+    ensures cause { IfErr result (RefusesFile (F.disk files.old) inputs.Image path.now (RefusesImage large)) }
     ensures left { LeavesRead (F.disk files.old) files.old files.new result }
 {
     let mut reader = Counted::new(files.open(Input::Image, path)?);
@@ -61,7 +62,7 @@ pub fn parts_at<F: Files>(
     large: bool,
 ) -> Result<ImageParts, CommandRefusal>
     ensures parts { IfOk result (λ parts. ArePartsAt (F.disk files.old) large path.now (heap_in parts)) }
-    ensures cause { IfErr result (RefusesAt (F.disk files.old) large path.now RefusesImageParts) }
+    ensures cause { IfErr result (RefusesFile (F.disk files.old) inputs.Image path.now (RefusesImageParts large)) }
     ensures left { LeavesRead (F.disk files.old) files.old files.new result }
 {
     let mut reader = Counted::new(files.open(Input::Image, path)?);

@@ -1,9 +1,12 @@
 //! Reads the texts of marks.
-ghost use Rattle.std.specs.Prelude.{◌-◌, ◌^◌, ◌<◌, IfOk, IfErr};
+ghost use Rattle.std.specs.Prelude.{◌≡◌, ◌-◌, ◌^◌, ◌<◌, Ok, IfOk, IfErr};
+ghost use Rattle.comp_trace.specs.MarksText.{marks_of};
 ghost use Rattle.heap_layout.specs.Counted.{inner_of, failures_of};
-ghost use Rattle.command_io.specs.Disk.{LeavesRead};
-ghost use Rattle.command_io.specs.MarksAtPath.{AreMarksAt, AreMarksOf, RefusesMarksAt, RefusesMarksText};
+ghost use Rattle.command_io.specs.Disk.{RefusesFile};
+ghost use Rattle.command_io.specs.Calls.{LeavesRead};
+ghost use Rattle.command_io.specs.Texts.{AreMarksAt, RefusesMarksText, SomeText};
 ghost use Rattle.command_io.specs.Reading.{CountsRead};
+ghost use Rattle.command_io.specs.declared.refusal.Input.TheVariants as inputs;
 
 use crate::opening::Files;
 use crate::reading::end_reading;
@@ -23,7 +26,7 @@ pub fn marks_at<F: Files>(
     path: &str,
 ) -> Result<Vec<u32>, CommandRefusal>
     ensures marks { IfOk result (λ marks. AreMarksAt (F.disk files.old) path.now marks.items) }
-    ensures cause { IfErr result (RefusesMarksAt (F.disk files.old) path.now) }
+    ensures cause { IfErr result (RefusesFile (F.disk files.old) inputs.Marks path.now RefusesMarksText) }
     ensures left { LeavesRead (F.disk files.old) files.old files.new result }
 {
     let mut reader = Counted::new(files.open(Input::Marks, path)?);
@@ -35,7 +38,7 @@ pub fn marks_at<F: Files>(
 // of the first such line, and if memory runs out.
 fn marks_in<S: Read>(alloc: Global, r: &mut Counted<S>) -> Result<Vec<u32>, CommandRefusal>
     requires read { failures_of r.old < 2 ^ 64 - 1 }
-    ensures marks { IfOk result (λ marks. AreMarksOf marks.items (S.remaining (inner_of r.old))) }
+    ensures marks { IfOk result (λ marks. SomeText (λ text. marks_of text ≡ Ok marks.items) (S.remaining (inner_of r.old))) }
     ensures cause { IfErr result (λ refusal. RefusesMarksText refusal (S.remaining (inner_of r.old))) }
     ensures reads { CountsRead (failures_of r.old) (failures_of r.new) result }
 {

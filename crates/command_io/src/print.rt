@@ -8,7 +8,7 @@ ghost use Rattle.std.specs.Fmt.{decimal};
 ghost use Rattle.std.specs.Io.KnownBytes.{Appends, Keeps};
 ghost use Rattle.heap_layout.specs.Counted.{inner_of, failures_of, is_flushed_of, writer_of};
 ghost use Rattle.heap_layout.specs.Writing.{AppendsSome};
-ghost use Rattle.command_io.specs.Printing.{help_lines, named, numbered, CountsPrint};
+ghost use Rattle.command_io.specs.Printing.{CountsPrint, help_lines, named, numbered};
 
 use crate::refusal::CommandRefusal;
 use heap_layout::Counted;

@@ -23,7 +23,7 @@ pub enum Input {
 }
 
 impl fmt::Display for Input {
-    ghost use Rattle.command_io.specs.Printing.{input_name};
+    ghost use Rattle.command_io.specs.Naming.{input_name};
 
     ghost output = { λ input. Some (input_name input) };
 
@@ -48,7 +48,7 @@ pub enum Output {
 }
 
 impl fmt::Display for Output {
-    ghost use Rattle.command_io.specs.Printing.{output_name};
+    ghost use Rattle.command_io.specs.Naming.{output_name};
 
     ghost output = { λ output. Some (output_name output) };
 

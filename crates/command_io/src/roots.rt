@@ -1,10 +1,12 @@
 //! Reads the texts of roots.
-ghost use Rattle.std.specs.Prelude.{◌-◌, ◌^◌, ◌<◌, All, IfOk, IfErr};
+ghost use Rattle.std.specs.Prelude.{◌≡◌, ◌-◌, ◌^◌, ◌<◌, All, Ok, IfOk, IfErr};
 ghost use Rattle.heap_layout.specs.Counted.{inner_of, failures_of};
-ghost use Rattle.comp_trace.specs.RootsText.{IsRootWithin};
-ghost use Rattle.command_io.specs.Disk.{LeavesRead};
-ghost use Rattle.command_io.specs.RootsAtPath.{AreRootsAt, AreRootsOf, RefusesRootsAt, RefusesRootsText};
+ghost use Rattle.comp_trace.specs.RootsText.{new_roots_of, IsRootWithin};
+ghost use Rattle.command_io.specs.Disk.{RefusesFile};
+ghost use Rattle.command_io.specs.Calls.{LeavesRead};
+ghost use Rattle.command_io.specs.Texts.{AreRootsAt, RefusesRootsText, SomeText};
 ghost use Rattle.command_io.specs.Reading.{CountsRead};
+ghost use Rattle.command_io.specs.declared.refusal.Input.TheVariants as inputs;
 
 use crate::opening::Files;
 use crate::reading::end_reading;
@@ -26,7 +28,7 @@ pub fn roots_at<F: Files>(
 ) -> Result<Vec<NewRoot>, CommandRefusal>
     ensures roots { IfOk result (λ roots. AreRootsAt (F.disk files.old) path.now mutators roots.items) }
     ensures within { IfOk result (λ roots. All (IsRootWithin mutators) roots.items) }
-    ensures cause { IfErr result (RefusesRootsAt (F.disk files.old) path.now mutators) }
+    ensures cause { IfErr result (RefusesFile (F.disk files.old) inputs.Roots path.now (RefusesRootsText mutators)) }
     ensures left { LeavesRead (F.disk files.old) files.old files.new result }
 {
     let mut reader = Counted::new(files.open(Input::Roots, path)?);
@@ -42,7 +44,7 @@ fn roots_in<S: Read>(
     mutators: u8,
 ) -> Result<Vec<NewRoot>, CommandRefusal>
     requires read { failures_of r.old < 2 ^ 64 - 1 }
-    ensures roots { IfOk result (λ roots. AreRootsOf mutators roots.items (S.remaining (inner_of r.old))) }
+    ensures roots { IfOk result (λ roots. SomeText (λ text. new_roots_of mutators text ≡ Ok roots.items) (S.remaining (inner_of r.old))) }
     ensures within { IfOk result (λ roots. All (IsRootWithin mutators) roots.items) }
     ensures cause { IfErr result (λ refusal. RefusesRootsText mutators refusal (S.remaining (inner_of r.old))) }
     ensures reads { CountsRead (failures_of r.old) (failures_of r.new) result }

@@ -1,7 +1,7 @@
 //! Reads whole texts.
 ghost use Rattle.std.specs.Prelude.{◌≡◌, ◌-◌, ◌^◌, ◌<◌, length, IfOk, IfSome};
 ghost use Rattle.heap_layout.specs.Counted.{inner_of, failures_of};
-ghost use Rattle.command_io.specs.Texts.{CountsUnread};
+ghost use Rattle.command_io.specs.Reading.{CountsUnread};
 
 use heap_layout::Counted;
 use std::alloc::Global;

@@ -2,9 +2,11 @@
 ghost use Rattle.std.specs.Prelude.{◌≡◌, ◌-◌, ◌^◌, ◌<◌, IfOk, IfErr};
 ghost use Rattle.heap_layout.specs.Counted.{inner_of, failures_of};
 ghost use Rattle.comp_trace.specs.Traces.{lines_of, mutators_of, roots_of};
-ghost use Rattle.command_io.specs.Disk.{LeavesRead};
+ghost use Rattle.command_io.specs.Disk.{RefusesFile};
+ghost use Rattle.command_io.specs.Calls.{LeavesRead};
 ghost use Rattle.command_io.specs.Reading.{CountsRead};
-ghost use Rattle.command_io.specs.Texts.{HasLinesAt, IsTextOf, RefusesText, RefusesTextAt};
+ghost use Rattle.command_io.specs.Texts.{HasLines, HasLinesAt, RefusesText, SomeText};
+ghost use Rattle.command_io.specs.declared.refusal.Input.TheVariants as inputs;
 
 use crate::opening::Files;
 use crate::reading::end_reading;
@@ -27,7 +29,7 @@ pub fn trace_at<F: Files>(
 ) -> Result<Trace, CommandRefusal>
     ensures lines { IfOk result (λ trace. HasLinesAt (F.disk files.old) path.now mutators roots (lines_of trace)) }
     ensures counts { IfOk result (λ trace. (mutators_of trace ≡ mutators) × (roots_of trace ≡ roots)) }
-    ensures cause { IfErr result (RefusesTextAt (F.disk files.old) path.now mutators roots) }
+    ensures cause { IfErr result (RefusesFile (F.disk files.old) inputs.Trace path.now (RefusesText mutators roots)) }
     ensures left { LeavesRead (F.disk files.old) files.old files.new result }
 {
     let mut reader = Counted::new(files.open(Input::Trace, path)?);
@@ -43,7 +45,7 @@ fn trace_in<S: Read>(
     roots: u32,
 ) -> Result<Trace, CommandRefusal>
     requires read { failures_of r.old < 2 ^ 64 - 1 }
-    ensures lines { IfOk result (λ trace. IsTextOf mutators roots (lines_of trace) (S.remaining (inner_of r.old))) }
+    ensures lines { IfOk result (λ trace. SomeText (HasLines mutators roots (lines_of trace)) (S.remaining (inner_of r.old))) }
     ensures counts { IfOk result (λ trace. (mutators_of trace ≡ mutators) × (roots_of trace ≡ roots)) }
     ensures cause { IfErr result (λ refusal. RefusesText mutators roots refusal (S.remaining (inner_of r.old))) }
     ensures reads { CountsRead (failures_of r.old) (failures_of r.new) result }

@@ -18,10 +18,8 @@ use Rattle.comp_mutator.specs.Finishes.{history_of, journals_of, pages_of, roots
 use Rattle.comp_mutator.specs.Finished.{Finished}
 use Rattle.comp_dump.specs.Lent.{record_of}
 use Rattle.comp_trace.specs.Bytes.{flipped}
-use Rattle.comp_trace.specs.Heaps.{HasRunOver}
-use Rattle.comp_trace.specs.declared.steps.shown.Shown.{Shown}
-use Rattle.comp_trace.specs.declared.text.line.Line.{Line}
-use Rattle.commands.specs.ReplayTask.{dumped_of, page_in, times_built, IsDumpAfter, IsPageAfter, IsReplayedHeap}
+use Rattle.commands.specs.Laws.{page_in, times_built, DumpsAreOfRuns, IsDumpAfter, IsPageAfter}
+use Rattle.commands.specs.TraceTasks.{dumped_of}
 use Rattle.command_io.proofs.Lines.{each-given}
 
 built_there : (slot : Slot) → times_built (record_of slot) ≡ there slot
@@ -58,11 +56,6 @@ module _ (u : Setup) (row : List Pass) (f : Finished) (end : IsFinished u row f)
   }
 
 -- a heap over which a trace was run leaves a dump of that run
-pub replayed_heap : (mutators fresh : ℕ) (lines : List Line) (shown : List Shown) (heap : Heap) (f : Finished) → HasRunOver mutators fresh lines shown heap f
-    → IsReplayedHeap mutators fresh lines shown f heap
-replayed_heap mutators fresh lines shown heap f h = record {
-  end = h.end;
-  runs = h.runs;
-  shown_is = h.shown_is;
-  left = record { after = dump_after (flipped heap mutators fresh) h.row f h.finished h.crew h.end.added h.history; builds = h.builds };
-}
+pub dumps_are_of_runs : DumpsAreOfRuns
+dumps_are_of_runs mutators fresh lines shown heap f h =
+    record { after = dump_after (flipped heap mutators fresh) h.row f h.finished h.crew h.end.added h.history; builds = h.builds }

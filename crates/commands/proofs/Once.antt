@@ -19,9 +19,9 @@ use Rattle.comp_trace.proofs.Determined.{determined}
 use Rattle.comp_trace.proofs.Inside.{ok_is, read_inside}
 use Rattle.comp_dump.specs.Dumped.{BuiltPage, Dumped}
 use Rattle.comp_mutator.specs.Builds.{named}
-use Rattle.commands.specs.ReplayTask.{page_in, times_built, AreOne, IsDumpOfRun, IsPageAfter, ReplaysAreOne}
+use Rattle.commands.specs.Laws.{page_in, times_built, AreOne, IsDumpOfRun, IsPageAfter, ReplaysAreOne}
 use Rattle.command_io.specs.Texts.{HasLines}
-use Rattle.command_io.proofs.Outcomes.{same_parts}
+use Rattle.command_io.proofs.Makings.{same_parts}
 
 -- ---- entries with the same stamps
 

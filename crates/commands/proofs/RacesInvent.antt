@@ -13,7 +13,7 @@ use Rattle.comp_trace.specs.declared.text.line.Line.{Line}
 use Rattle.comp_trace.specs.Races.{numbered, own_lines, RanAndMet}
 use Rattle.comp_trace.specs.declared.races.racing.Run.{Run}
 use Rattle.comp_trace.proofs.Inventions.{in_by, in_on, met_full, met_read, met_wrote}
-use Rattle.commands.specs.RaceTask.{RanTheirLines}
+use Rattle.commands.specs.TraceTasks.{RanTheirLines}
 
 module _ (u : Setup) (lines : List Line) (row : List Pass) (runs : List Run) (h : RanTheirLines u lines row runs) where
   -- the mutator of a run, before and after it

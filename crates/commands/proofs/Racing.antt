@@ -11,7 +11,7 @@ use Rattle.comp_mutator.specs.Passes.{number_of}
 use Rattle.comp_mutator.proofs.Sums.{is_inside, read_at, there_at}
 use Rattle.comp_mutator.specs.CellViews.{steps_of, AreNew, Works}
 use Rattle.comp_mutator.proofs.Rows.{at_map_back}
-use Rattle.comp_mutator.specs.Finishes.{history_of, IsFinished}
+use Rattle.comp_mutator.specs.Finishes.{IsFinished}
 use Rattle.comp_mutator.specs.Mutators.{cells_of, pass_of, setup_of}
 use Rattle.comp_mutator.specs.Finished.{Finished}
 use Rattle.comp_mutator.specs.declared.mutator.Mutator.{Mutator}
@@ -23,12 +23,10 @@ use Rattle.comp_trace.specs.declared.text.line.Line.{Line}
 use Rattle.comp_trace.specs.declared.races.racing.Run.{Run}
 use Rattle.comp_trace.specs.declared.steps.shown.Shown.{Shown}
 use Rattle.comp_trace.proofs.Inside.{read_inside}
-use Rattle.commands.specs.ByLine.{AreByLine, AreOwn, HasEnded, IsLeastRefusedLine}
-use Rattle.commands.specs.RaceTask.{RanTheirLines, IsRacedHeap, IsStoppedRace}
-use Rattle.commands.specs.ReplayTask.{dumped_of, IsDumpAfter}
+use Rattle.commands.specs.TraceTasks.{AreByLine, HasEnded, IsLeastRefusedLine, IsRacedHeap, IsStoppedRace, RanTheirLines}
+use Rattle.commands.specs.Joining.{AreOwn}
 use Rattle.command_io.specs.Texts.{HasLines}
 use Rattle.comp_trace.proofs.Runnings.{setup_is}
-use Rattle.commands.proofs.DumpsAfter.{dump_after}
 use Rattle.commands.proofs.Walking.{of_run}
 
 -- the mutators of the lines of a text are there
@@ -84,7 +82,6 @@ module _ {L B : Type 0} {g : Ghosts B} (space : Space L B g) (lines : List Line)
     raced_heap f ended end =
         let u = setup_of space in
         let row = map pass_of after in
-        let dump = dumped_of u.mutators u.fresh f in
         let same = setup_is u compacted in
         record {
           row = row;
@@ -93,7 +90,6 @@ module _ {L B : Type 0} {g : Ghosts B} (space : Space L B g) (lines : List Line)
           ended = ended;
           in_order = in_order;
           finished = subst (λ (w : Setup). IsFinished w row f) same end;
-          left = subst (λ (w : Setup). IsDumpAfter w (history_of w f) dump) same (dump_after u row f end (length-map after pass_of ∙ raced.all.count) (history_of u f) refl);
         }
 
     -- a race in which lines were refused

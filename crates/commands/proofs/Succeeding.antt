@@ -30,7 +30,8 @@ use Rattle.comp_trace.proofs.Determined.{determined}
 use Rattle.comp_trace.proofs.Inside.{ok_is, read_inside}
 use Rattle.command_io.specs.Texts.{HasLines}
 use Rattle.reachability.specs.Reachable.{AreReachable}
-use Rattle.commands.specs.Cycled.{Given, IsCycledHeap}
+use Rattle.commands.specs.TraceTasks.{IsCycledHeap}
+use Rattle.commands.specs.Inputs.{Given}
 use Rattle.commands.specs.Successors.{AreMarksIn, AreOneLife, AreRootsIn, LeaveOne, NextFollows, NextIsOne, TwoAreOneLife}
 use Rattle.commands.proofs.Once.{counted, counted_of, same_entries}
 

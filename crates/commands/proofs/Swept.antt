@@ -34,7 +34,8 @@ use Rattle.comp_sweep.specs.Sweeps.{HandsBack, SomeSeesBuilt, Sweeps}
 use Rattle.comp_sweep.proofs.SweepAnswers.{beside}
 use Rattle.comp_dump.specs.Dumped.{BuiltPage}
 use Rattle.comp_dump.specs.Lent.{record_of}
-use Rattle.commands.specs.Compact.{slid_record, slid_records, AreBuilds, IsSweptHeap}
+use Rattle.commands.specs.HeapTasks.{slid_record, slid_records, AreBuilds}
+use Rattle.commands.specs.Leftovers.{IsSweptHeap}
 use Rattle.command_io.proofs.Lines.{each-given}
 
 -- entries that nobody wrote

@@ -19,7 +19,8 @@ use Rattle.comp_trace.specs.declared.text.line.Action.TheVariants.{Root, Load, G
 use Rattle.comp_trace.specs.declared.text.line.Line.{Line}
 use Rattle.comp_trace.specs.declared.races.racing.Run.{Run}
 use Rattle.comp_trace.specs.declared.steps.shown.Shown.{Shown}
-use Rattle.commands.specs.ByLine.{earlier_of, printed_at, AreByLine, AreOf, AreOwn, HasEnded, IsFirstRefusedLine, IsLeastRefusedLine, LinesRise}
+use Rattle.commands.specs.TraceTasks.{AreByLine, HasEnded, IsLeastRefusedLine, LinesRise}
+use Rattle.commands.specs.Joining.{earlier_of, printed_at, AreOf, AreOwn, IsFirstRefusedLine}
 
 -- ---- the walk
 

@@ -10,7 +10,8 @@ use Rattle.comp_trace.specs.RootsText.{new_roots_of}
 use Rattle.comp_trace.specs.declared.text.line.Line.{Line}
 use Rattle.comp_trace.specs.declared.steps.shown.Shown.{Shown}
 use Rattle.command_io.specs.Texts.{HasLines}
-use Rattle.commands.specs.Cycled.{Given, IsCycledHeap}
+use Rattle.commands.specs.TraceTasks.{IsCycledHeap}
+use Rattle.commands.specs.Inputs.{Given}
 
 -- these are the marks of the text, and none if there is no text
 abbrev pub AreMarksIn : Option (List ℕ) → Option (List ℕ) → Type 0

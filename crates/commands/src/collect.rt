@@ -1,69 +1,51 @@
 //! The command `collect`.
-ghost use Rattle.std.specs.Prelude.{◌≡◌, ◌-◌, ◌^◌, ◌<◌, length, IfErr, IfOk, OnOk};
-ghost use Rattle.heap_layout.specs.Counted.{inner_of, failures_of};
+ghost use Rattle.std.specs.Prelude.{◌≡◌, length, IfErr, IfOk};
 ghost use Rattle.heap_layout.specs.Heap.{Heap};
 ghost use Rattle.heap_layout.specs.ImageParts.{heap_in};
 ghost use Rattle.stopped_heap.specs.Collecting.{RefusesCollection};
-ghost use Rattle.command_io.specs.Disk.{LeavesRead, RefusedUnmade};
-ghost use Rattle.command_io.specs.PartsAtPath.{SomePartsAt};
-ghost use Rattle.command_io.specs.Printing.{RefusedUnprinted};
+ghost use Rattle.command_io.specs.Disk.{RefusesFile};
+ghost use Rattle.command_io.specs.Images.{RefusesImageParts, SomePartsAt};
+ghost use Rattle.command_io.specs.declared.refusal.Input.TheVariants as inputs;
 ghost use Rattle.command_io.specs.declared.refusal.CommandRefusal.TheVariants as refusals;
-ghost use Rattle.commands.specs.CollectTask.{AreLeftBy, AreSlid, Collects, IsCollectedHeap, IsLeftBy, IsReachedHeap, IsUncollectable, RefusesCollect, RefusesCollecting};
-ghost use Rattle.commands.specs.Leaving.{LeavesOutput};
+ghost use Rattle.commands.specs.Answers.{IsAnswered, IsComing};
+ghost use Rattle.commands.specs.Collecting.{AreLeftBy, AreSlid, IsLeftBy, IsReachedHeap};
+ghost use Rattle.commands.specs.HeapTasks.{IsCollected, IsCollectedHeap, IsUncollectable};
 
-use crate::mark::write_marked;
+use crate::answers::Answer;
 use command_io::{CommandRefusal, Files, parts_at};
-use heap_layout::{Counted, Edition, ImageParts, LayoutFault, MarkedHeap};
+use heap_layout::{Edition, ImageParts, LayoutFault, MarkedHeap};
 use reachability::reachable_heap_by_threads;
 use std::alloc::Global;
-use std::io::Write;
 use std::thread::Threads;
 use stopped_heap::{CollectFault, SurveyFault, collect_by_threads};
 
-/// The command `collect`.
-///
-/// It reads the image at `image`, of edition three or four only if `large`. Whatever marks it has, what its roots reach
-/// slides to the beginning, by at most `workers` threads. Nothing is asked of the other words. It writes the image of
-/// the heap that is left, with all its objects marked, to `new`, and flushes it. Last it prints the live words. Fewer
-/// than `u64::MAX` calls of the output must have failed before.
-///
-/// The first of these steps that is refused ends it. A refusal other than `CannotPrint` prints nothing. The new image
-/// is created only after the heap was collected. If a call of its writer fails, the writer has taken a beginning of it.
-pub fn print_collect<R: Threads + Sync, F: Files, O: Write>(
+/// What is left of the heap whose image is at a path, of edition three or four only if `large`. Whatever marks it has,
+/// what its roots reach slides to the beginning, by at most `workers` threads. Nothing is asked of the other words.
+pub fn collect_at<R: Threads + Sync, F: Files>(
     alloc: Global,
     rt: &R,
     files: &mut F,
     image: &str,
-    new: &str,
     workers: u8,
     large: bool,
-    out: &mut Counted<&mut O>,
-) -> Result<(), CommandRefusal>
-    requires { failures_of out.old < 2 ^ 64 - 1 }
-    ensures collected { OnOk result (SomePartsAt (F.disk files.old) large image.now (Collects (F.disk files.old) new.now files.new (O.contents (inner_of out.old).now) (O.contents (inner_of out.new).now))) }
-    ensures cause { IfErr result (RefusesCollect (F.disk files.old) large image.now new.now files.old files.new (O.contents (inner_of out.old).now) (O.contents (inner_of out.new).now)) }
-    ensures unmade { RefusedUnmade (F.disk files.old) files.old files.new result }
-    ensures output { LeavesOutput RefusedUnprinted O.contents out.old out.new result }
+) -> Result<Answer, CommandRefusal>
+    ensures { IsAnswered (F.disk files.old) files.old files.new (λ outcome. SomePartsAt (F.disk files.old) large image.now (λ parts. IsCollected parts outcome)) (RefusesFile (F.disk files.old) inputs.Image image.now (RefusesImageParts large)) result }
 {
-    let heap = collected_heap(alloc, rt, files, image, workers, large)?;
-    write_marked(files, new, &heap, out)
+    let parts = parts_at(alloc, files, image, large)?;
+    collected(alloc, rt, parts, workers)
 }
 
-// The heap whose parts the image at a path has, collected by its roots.
-fn collected_heap<R: Threads + Sync, F: Files>(
+// What a collection of the heap of these parts leaves, without values before it.
+fn collected<R: Threads + Sync>(
     alloc: Global,
     rt: &R,
-    files: &mut F,
-    path: &str,
+    parts: ImageParts,
     workers: u8,
-    large: bool,
-) -> Result<MarkedHeap, CommandRefusal>
-    ensures collected { IfOk result (λ heap. SomePartsAt (F.disk files.old) large path.now (λ parts. IsCollectedHeap parts heap)) }
-    ensures cause { IfErr result (RefusesCollecting (F.disk files.old) large path.now) }
-    ensures left { LeavesRead (F.disk files.old) files.old files.new result }
+) -> Result<Answer, CommandRefusal>
+    ensures { IsComing (IsCollected (heap_in parts)) result }
 {
-    let parts = parts_at(alloc, files, path, large)?;
-    collect_by_roots(alloc, rt, parts, workers)
+    let heap = collect_by_roots(alloc, rt, parts, workers)?;
+    Ok(Answer::Followed(Vec::new(alloc), heap))
 }
 
 // What a collection of the heap of these parts by its roots leaves.

@@ -1,76 +1,77 @@
 //! The command `compact`.
-ghost use Rattle.std.specs.Prelude.{◌≡◌, ◌-◌, ◌^◌, ◌<◌, ◌≤◌, map, IfOk, IfErr, OnOk};
-ghost use Rattle.heap_layout.specs.Counted.{inner_of, failures_of};
+ghost use Rattle.std.specs.Prelude.{◌≡◌, ◌<◌, ◌≤◌, map, IfOk, IfErr};
 ghost use Rattle.heap_layout.specs.Heap.{live};
 ghost use Rattle.page_plan.specs.Sliding.{pages};
 ghost use Rattle.comp_mutator.specs.CellViews.{steps_of, AreNew};
 ghost use Rattle.comp_mutator.specs.Finishes.{IsOfFlip};
 ghost use Rattle.comp_mutator.specs.Mutators.{cells_of, pass_of, setup_of, AreMutatorsOf};
-ghost use Rattle.commands.specs.Compact.{Compacts, IsOfSweeping, IsSweptHeap, RefusesCompact, RefusesSweep};
-ghost use Rattle.command_io.specs.Disk.{LeavesRead, RefusedUnmade};
-ghost use Rattle.command_io.specs.Images.{SomeHeapAt, RefusesAt};
-ghost use Rattle.command_io.specs.Printing.{RefusedUnprinted};
-ghost use Rattle.commands.specs.Leaving.{LeavesOutput};
+ghost use Rattle.command_io.specs.Images.{SomeHeapAt};
+ghost use Rattle.commands.specs.Answers.{IsAnswered, IsComing};
+ghost use Rattle.commands.specs.HeapTasks.{IsCompacted, IsOfSweeping};
+ghost use Rattle.commands.specs.Inputs.{RefusesHeapAt};
+ghost use Rattle.commands.specs.Leftovers.{IsSweptHeap};
 
+use crate::answers::{Answer, Left};
 use crate::flipping::{finish_all, flip_plan, plan_heap};
-use command_io::{CommandRefusal, Files, heap_at, print_line, write_dump_to};
-use comp_audit::Dump;
+use command_io::{CommandRefusal, Files, heap_at};
 use comp_mutator::{Finished, Mutator, Space};
 use comp_sweep::{Open, sweep};
-use heap_layout::Counted;
+use heap_layout::MarkedHeap;
 use page_plan::Plan;
 use std::alloc::Global;
-use std::io::Write;
 use std::marker::Brand;
 use std::sync::ledger::{Blank, Ledger};
 use std::sync::{Arc, Wait};
 use std::thread::Threads;
 
-/// Compacts the heap whose image is at `image`, of edition three or four only if `large`, with 1 to 64 workers, writes
-/// its dump to `dump`, and prints the live words.
-///
-/// Workers in threads of their own build the pages. The dump is created after the heap is finished, and the line is
-/// printed after the dump is written. A refusal other than `CannotPrint` prints nothing. Fewer than `u64::MAX` calls of
-/// the output must have failed before.
-pub fn print_compact<R: Threads + Wait + Sync, F: Files, O: Write>(
+/// Compacts the heap whose image is at a path, of edition three or four only if `large`, with 1 to 64 workers. Workers
+/// in threads of their own build the pages.
+pub fn compact_at<R: Threads + Wait + Sync, F: Files>(
     alloc: Global,
     rt: &R,
     files: &mut F,
     image: &str,
-    dump: &str,
     workers: u8,
     large: bool,
-    out: &mut Counted<&mut O>,
-) -> Result<(), CommandRefusal>
+) -> Result<Answer, CommandRefusal>
     requires workers { (1 ≤ workers) × (workers ≤ 64) }
-    requires written { failures_of out.old < 2 ^ 64 - 1 }
-    ensures compacted { OnOk result (SomeHeapAt (F.disk files.old) large image.now (Compacts (F.disk files.old) dump.now workers files.new (O.contents (inner_of out.old).now) (O.contents (inner_of out.new).now))) }
-    ensures cause { IfErr result (RefusesAt (F.disk files.old) large image.now (RefusesCompact (F.disk files.old) dump.now workers files.new (O.contents (inner_of out.old).now) (O.contents (inner_of out.new).now))) }
-    ensures unmade { RefusedUnmade (F.disk files.old) files.old files.new result }
-    ensures output { LeavesOutput RefusedUnprinted O.contents out.old out.new result }
+    ensures { IsAnswered (F.disk files.old) files.old files.new (λ outcome. SomeHeapAt (F.disk files.old) large image.now (λ heap. IsCompacted workers heap outcome)) (RefusesHeapAt (F.disk files.old) large image.now) result }
 {
-    let finished = swept_heap(alloc, rt, files, image, workers, large)?;
-    let made = Dump::of(alloc, &finished, workers, 0)?;
-    write_dump_to(files, dump, &made)?;
-    print_line("live ", made.live_words(), out)
+    let heap = heap_at(alloc, files, image, large)?;
+    compacted(alloc, rt, heap, workers)
 }
 
-// Reads the heap whose image is at a path, sweeps it by 1 to 64 workers, and finishes it.
-fn swept_heap<R: Threads + Wait + Sync, F: Files>(
+// What 1 to 64 workers leave that sweep a heap. They show no values.
+fn compacted<R: Threads + Wait + Sync>(
     alloc: Global,
     rt: &R,
-    files: &mut F,
-    path: &str,
+    heap: MarkedHeap,
     workers: u8,
-    large: bool,
+) -> Result<Answer, CommandRefusal>
+    requires workers { (1 ≤ workers) × (workers ≤ 64) }
+    ensures { IsComing (IsCompacted workers heap) result }
+{
+    let finished = swept_heap(alloc, rt, heap, workers)?;
+    Ok(Answer::Ran(Left {
+        shown: Vec::new(alloc),
+        finished,
+        mutators: workers,
+        fresh: 0,
+    }))
+}
+
+// Sweeps a heap by 1 to 64 workers, and finishes it.
+fn swept_heap<R: Threads + Wait + Sync>(
+    alloc: Global,
+    rt: &R,
+    heap: MarkedHeap,
+    workers: u8,
 ) -> Result<Finished, CommandRefusal>
     requires workers { (1 ≤ workers) × (workers ≤ 64) }
-    ensures swept { IfOk result (λ f. SomeHeapAt (F.disk files.old) large path.now (IsSweptHeap workers f)) }
+    ensures swept { IfOk result (λ f. IsSweptHeap workers f heap) }
     ensures flipped { IfOk result (IsOfFlip workers 0) }
-    ensures cause { IfErr result (RefusesAt (F.disk files.old) large path.now RefusesSweep) }
-    ensures left { LeavesRead (F.disk files.old) files.old files.new result }
+    ensures cause { IfErr result (IsOfSweeping heap) }
 {
-    let heap = heap_at(alloc, files, path, large)?;
     let plan = plan_heap(alloc, rt, heap)?;
     flipped_and_swept::<Brand, R>(alloc, rt, Blank::new(u64::from(workers)), plan, workers)
 }

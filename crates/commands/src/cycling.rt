@@ -6,12 +6,14 @@ ghost use Rattle.comp_trace.specs.Markings.{marks_given};
 ghost use Rattle.comp_trace.specs.Replays.{Hold};
 ghost use Rattle.comp_trace.specs.RootsNamed.{words_named};
 ghost use Rattle.comp_trace.specs.Traces.{lines_of};
-ghost use Rattle.commands.specs.Cycled.{given_by, refusal_by, shown_by, IsCycledHeap, IsGivenWithin, IsNextHeap, IsUncycled, IsUnmarked};
+ghost use Rattle.commands.specs.Answers.{IsComing};
+ghost use Rattle.commands.specs.TraceTasks.{IsFollowed};
+ghost use Rattle.commands.specs.Following.{given_by, IsGivenWithin, IsNextHeap, IsUnmarked};
 
-use crate::replays::printed;
+use crate::answers::{Answer, halted};
 use command_io::CommandRefusal;
 use comp_mutator::Finished;
-use comp_trace::{Halt, Marking, NewRoot, Shown, Trace, next_marked, root_words, run_cycle};
+use comp_trace::{Marking, NewRoot, Trace, next_marked, root_words, run_cycle};
 use heap_layout::MarkedHeap;
 use page_plan::Plan;
 use reachable_cycles::{next_reachable_by_threads, next_reachable_with_by_threads};
@@ -28,41 +30,12 @@ pub enum Handed {
     Roots(Vec<NewRoot>),
 }
 
-/// A cycle, and what the next cycle begins with.
-#[derive(Drop)]
-pub struct Cycled {
-    /// The values that the `get` lines showed, in the order of the lines.
-    pub shown: Vec<Shown>,
-    /// The heap with which the next cycle begins.
-    pub heap: MarkedHeap,
-}
-
-/// Why there is no next heap.
-#[derive(Drop)]
-pub enum Uncycled {
-    /// The run was halted.
-    Halted(Halt),
-    /// The run came to its end, and no heap follows it. Of its values none is printed.
-    Unfollowed(CommandRefusal),
-}
-
-/// The values that are printed of a cycle without a next heap, and its refusal.
-pub fn printed_cycle(left: &Uncycled) -> (&[Shown], CommandRefusal)
-    ensures shown { result.0.now ≡ shown_by left.now }
-    ensures refusal { result.1 ≡ refusal_by left.now }
-{
-    match left {
-        Uncycled::Halted(halt) => printed(halt),
-        Uncycled::Unfollowed(refusal) => (&[], *refusal),
-    }
-}
-
 /// Flips a heap, runs a trace over it by one thread, finishes it, and makes the heap with which the next cycle begins,
 /// from what is handed in. There are 1 to 64 mutators and at most 4,096 fresh pages. The trace was parsed for these
 /// mutators and for the heap's number of roots. A root that is a register is one of these mutators, and names the word
 /// that the register holds when the run ends. What roots reach is marked by at most `workers` threads.
 ///
-/// It is refused if a line is refused, with the values of the lines before it; if the next heap is refused, with its
+/// If a line is refused, the answer has the values of the lines before it. It is refused if the next heap is, with its
 /// first fault, which is `TooLarge` if that heap is marked by what its roots reach, or `BadRoot` for the first root
 /// that is handed in and leads nowhere; and if memory runs out. Of the last two no value is printed.
 pub fn cycle_heap<R: Threads + Sync>(
@@ -74,17 +47,16 @@ pub fn cycle_heap<R: Threads + Sync>(
     mutators: u8,
     fresh: u32,
     workers: u8,
-) -> Result<Cycled, Uncycled>
+) -> Result<Answer, CommandRefusal>
     requires mutators { (1 ≤ mutators) × (mutators ≤ 64) }
     requires fresh { fresh ≤ 4096 }
     requires parsed { IsParsedFor mutators (length heap.roots) trace.now }
     requires within { IsGivenWithin mutators (given_by handed) }
-    ensures cycled { IfOk result (λ cycled. IsCycledHeap mutators fresh (lines_of trace.now) cycled.shown.items (given_by handed) heap cycled.heap) }
-    ensures halted { IfErr result (λ left. IsUncycled mutators fresh (lines_of trace.now) (shown_by left) (given_by handed) heap (refusal_by left)) }
+    ensures { IsComing (IsFollowed mutators fresh (lines_of trace.now) (given_by handed) heap) result }
 {
     match run_cycle(alloc, rt, heap, trace, mutators, fresh) {
         Ok(ran) => {
-            match make_next(
+            let heap = make_next(
                 alloc,
                 rt,
                 ran.plan,
@@ -92,15 +64,10 @@ pub fn cycle_heap<R: Threads + Sync>(
                 &ran.registers,
                 handed,
                 workers,
-            ) {
-                Ok(heap) => Ok(Cycled {
-                    shown: ran.shown,
-                    heap,
-                }),
-                Err(refusal) => Err(Uncycled::Unfollowed(refusal)),
-            }
+            )?;
+            Ok(Answer::Followed(ran.shown, heap))
         }
-        Err(halt) => Err(Uncycled::Halted(halt)),
+        Err(halt) => Ok(halted(alloc, halt)),
     }
 }
 

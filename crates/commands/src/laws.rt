@@ -1,7 +1,13 @@
 //! Laws of the commands. Each is the contract of a function that does nothing.
-ghost use Rattle.commands.specs.RaceTask.{RacesInventNothing};
-ghost use Rattle.commands.specs.ReplayTask.{ReplaysAreOne};
+ghost use Rattle.commands.specs.Laws.{DumpsAreOfRuns, RacesInventNothing, ReplaysAreOne};
 ghost use Rattle.commands.specs.Successors.{AreOneLife, NextFollows, NextIsOne, TwoAreOneLife};
+
+/// The dump that `replay` makes, page by page: a page that was built has the entries of the run that are on it, in the
+/// order of their stamps, and the words that these make of its base; each page was built by the mutator that the run
+/// says; and its live words are those that slid and those of the objects that the run made.
+pub fn dumps_are_of_runs()
+    ensures { DumpsAreOfRuns }
+{}
 
 /// The bytes of the image and of the trace and the numbers of mutators and of fresh pages determine what `replay`
 /// shows and writes: the values, the whole dump, and so its bytes.

@@ -1,32 +1,19 @@
+//! Runs the program: reads its words, does what they ask for, and answers a status.
 ghost use Rattle.std.specs.Prelude.{◌≡◌, ◌≢◌, ◌-◌, ◌^◌, ◌<◌, ◌≤◌, true, map, IfErr, OnOk, OnErr};
 ghost use Rattle.std.specs.String.{string_bytes};
 ghost use Rattle.std.specs.Io.KnownBytes.{Keeps};
 ghost use Rattle.clap.specs.Words.{kind_of};
 ghost use Rattle.clap.specs.declared.error.kind.ErrorKind.TheVariants as kind;
 ghost use Rattle.heap_layout.specs.Counted.{inner_of, failures_of, is_flushed_of, writer_of};
-ghost use Rattle.command_line.specs.AskedTasks.{AsksNoCommand, HasLawfulCounts};
-ghost use Rattle.command_io.specs.Disk.{RefusedUnmade};
+ghost use Rattle.command_line.specs.AskedTasks.{AsksNoCommand};
 ghost use Rattle.command_io.specs.declared.refusal.CommandRefusal.TheVariants.{OutOfMemory};
-ghost use Rattle.commands.specs.ReplayTask.{StopsUnprinted};
-ghost use Rattle.commands.specs.Tasks.{DoesTask, HasAnswered, LeavesFiles, RefusesTask};
-ghost use Rattle.commands.specs.TaskAnswers.{status_of, DoesAsked, IsUnanswered, LeavesSent};
+ghost use Rattle.commands.specs.Tasks.{status_of, DoesAsked, HasAnswered, IsUnanswered, LeavesSent};
 ghost use Rattle.commands.specs.declared.running.Unanswered.TheVariants.{Misused, Refused};
-ghost use Rattle.commands.specs.Leaving.{LeavesOutput};
 
-use crate::audit::print_audit;
-use crate::collect::print_collect;
-use crate::compact::print_compact;
-use crate::mapping::print_map;
-use crate::mark::print_mark;
-use crate::moved::print_moved;
-use crate::next::print_next;
-use crate::plan::print_plan;
-use crate::race::print_race;
-use crate::replay::print_replay;
-use crate::word::print_word;
+use crate::performing::perform;
 use clap::error::ErrorKind;
-use command_io::{CommandRefusal, Files, RuntimeFiles, flush, print_help, print_text};
-use command_line::{Task, VERSION_LINE, read_task};
+use command_io::{CommandRefusal, Files, RuntimeFiles};
+use command_line::read_task;
 use heap_layout::Counted;
 use std::alloc::Global;
 use std::io::Write;
@@ -123,83 +110,6 @@ fn respond<E: Write>(answered: Result<(), Unanswered>, err: &mut E) -> u8
             let _ = write!(err, "{error}");
             MISUSED
         }
-    }
-}
-
-// Does a task, and flushes the output.
-fn perform<R: Threads + Wait + Sync, F: Files, O: Write>(
-    alloc: Global,
-    rt: &R,
-    files: &mut F,
-    task: Task,
-    out: &mut Counted<&mut O>,
-) -> Result<(), CommandRefusal>
-    requires written { failures_of out.old < 2 ^ 64 - 1 }
-    requires counts { HasLawfulCounts task }
-    ensures done { OnOk result (DoesTask (F.disk files.old) files.new (O.contents (inner_of out.old).now) (O.contents (inner_of out.new).now) task.entry) }
-    ensures cause { IfErr result (RefusesTask (F.disk files.old) files.old files.new (O.contents (inner_of out.old).now) (O.contents (inner_of out.new).now) task.entry) }
-    ensures flushed { OnOk result (is_flushed_of out.new ≡ true) }
-    ensures output { LeavesOutput StopsUnprinted O.contents out.old out.new result }
-    ensures left { OnOk result (LeavesFiles files.old files.new task.entry) }
-    ensures unmade { RefusedUnmade (F.disk files.old) files.old files.new result }
-{
-    print_task(alloc, rt, files, task, out)?;
-    flush(out)
-}
-
-// Does a task, without a flush of the output after it.
-fn print_task<R: Threads + Wait + Sync, F: Files, O: Write>(
-    alloc: Global,
-    rt: &R,
-    files: &mut F,
-    task: Task,
-    out: &mut Counted<&mut O>,
-) -> Result<(), CommandRefusal>
-    requires written { failures_of out.old < 2 ^ 64 - 1 }
-    requires counts { HasLawfulCounts task }
-    ensures done { OnOk result (DoesTask (F.disk files.old) files.new (O.contents (inner_of out.old).now) (O.contents (inner_of out.new).now) task.entry) }
-    ensures cause { IfErr result (RefusesTask (F.disk files.old) files.old files.new (O.contents (inner_of out.old).now) (O.contents (inner_of out.new).now) task.entry) }
-    ensures output { LeavesOutput StopsUnprinted O.contents out.old out.new result }
-    ensures left { OnOk result (LeavesFiles files.old files.new task.entry) }
-    ensures unmade { RefusedUnmade (F.disk files.old) files.old files.new result }
-{
-    match task {
-        Task::Plan { image, large } => print_plan(alloc, rt, files, image, large, out),
-        Task::Word {
-            image,
-            index,
-            large,
-        } => print_word(alloc, rt, files, image, large, index, out),
-        Task::Replay(run) => print_replay(alloc, rt, files, run, out),
-        Task::Race(run) => print_race(alloc, rt, files, run, out),
-        Task::Compact {
-            image,
-            dump,
-            workers,
-            large,
-        } => print_compact(alloc, rt, files, image, dump, workers, large, out),
-        Task::Audit(run) => print_audit(alloc, rt, files, run, out),
-        Task::Next(run) => print_next(alloc, rt, files, run, out),
-        Task::Mark {
-            image,
-            new,
-            workers,
-            large,
-        } => print_mark(alloc, rt, files, image, new, workers, large, out),
-        Task::Collect {
-            image,
-            new,
-            workers,
-            large,
-        } => print_collect(alloc, rt, files, image, new, workers, large, out),
-        Task::Moved {
-            image,
-            moved,
-            large,
-        } => print_moved(alloc, files, image, moved, large, out),
-        Task::Map(run) => print_map(alloc, rt, files, run, out),
-        Task::Help { text } => print_help(&text, out),
-        Task::Version => print_text(VERSION_LINE, out),
     }
 }
 

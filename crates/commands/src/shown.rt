@@ -1,13 +1,12 @@
 //! Prints the values that the lines of a trace showed, and the line of live words after them.
-ghost use Rattle.std.specs.Prelude.{◌≡◌, ◌-◌, ◌^◌, ◌<◌, drop, true, OnOk, OnErr, Err};
+ghost use Rattle.std.specs.Prelude.{◌≡◌, ◌-◌, ◌^◌, ◌<◌, drop, OnOk, OnErr, Err};
 ghost use Rattle.std.specs.Io.KnownBytes.{Appends};
-ghost use Rattle.heap_layout.specs.Counted.{inner_of, failures_of, is_flushed_of};
+ghost use Rattle.heap_layout.specs.Counted.{inner_of, failures_of, writer_of};
 ghost use Rattle.heap_layout.specs.Writing.{AppendsSome};
-ghost use Rattle.commands.specs.ReplayTask.{run_lines, shown_line, shown_lines, PrintsRun};
-ghost use Rattle.commands.specs.Leaving.{LeavesOutput};
-ghost use Rattle.command_io.specs.Printing.{RefusedUnprinted};
+ghost use Rattle.commands.specs.TraceTasks.{run_lines, shown_line, shown_lines};
+ghost use Rattle.command_io.specs.Printing.{CountsPrint};
 
-use command_io::{CommandRefusal, flush, print_bytes, print_line};
+use command_io::{CommandRefusal, print_bytes, print_line};
 use comp_trace::Shown;
 use heap_layout::Counted;
 use itoa::write_digits;
@@ -24,31 +23,18 @@ pub fn print_run<O: Write>(
     out: &mut Counted<&mut O>,
 ) -> Result<(), CommandRefusal>
     requires { failures_of out.old < 2 ^ 64 - 1 }
-    ensures printed { OnOk result (PrintsRun (O.contents (inner_of out.old).now) (O.contents (inner_of out.new).now) shown.now live) }
+    ensures printed { OnOk result (Appends (O.contents (inner_of out.old).now) (O.contents (inner_of out.new).now) (run_lines shown.now live)) }
     ensures begun { OnErr result (AppendsSome (O.contents (inner_of out.old).now) (O.contents (inner_of out.new).now) (run_lines shown.now live)) }
     ensures cause { OnErr result (result ≡ Err CommandRefusal.CannotPrint) }
-    ensures output { LeavesOutput RefusedUnprinted O.contents out.old out.new result }
+    ensures counts { CountsPrint (failures_of out.old) (failures_of out.new) result }
+    ensures same_writer { writer_of out.new ≡ writer_of out.old }
 {
     print_shown(shown, out)?;
     print_line("live ", live, out)
 }
 
-// Prints shown values, a line each: the number of the line that showed it, and the value.
-fn print_shown<O: Write>(shown: &[Shown], out: &mut Counted<&mut O>) -> Result<(), CommandRefusal>
-    requires { failures_of out.old < 2 ^ 64 - 1 }
-    ensures printed { OnOk result (Appends (O.contents (inner_of out.old).now) (O.contents (inner_of out.new).now) (shown_lines shown.now)) }
-    ensures begun { OnErr result (AppendsSome (O.contents (inner_of out.old).now) (O.contents (inner_of out.new).now) (shown_lines shown.now)) }
-    ensures cause { OnErr result (result ≡ Err CommandRefusal.CannotPrint) }
-    ensures output { LeavesOutput RefusedUnprinted O.contents out.old out.new result }
-{
-    for value in shown {
-        print_value(*value, out)?;
-    }
-    Ok(())
-}
-
-/// Prints shown values, and flushes the output, since nothing is printed after a refused line.
-pub fn send_shown<O: Write>(
+/// Prints shown values, a line each: the number of the line that showed it, and the value.
+pub fn print_shown<O: Write>(
     shown: &[Shown],
     out: &mut Counted<&mut O>,
 ) -> Result<(), CommandRefusal>
@@ -56,11 +42,13 @@ pub fn send_shown<O: Write>(
     ensures printed { OnOk result (Appends (O.contents (inner_of out.old).now) (O.contents (inner_of out.new).now) (shown_lines shown.now)) }
     ensures begun { OnErr result (AppendsSome (O.contents (inner_of out.old).now) (O.contents (inner_of out.new).now) (shown_lines shown.now)) }
     ensures cause { OnErr result (result ≡ Err CommandRefusal.CannotPrint) }
-    ensures output { LeavesOutput RefusedUnprinted O.contents out.old out.new result }
-    ensures flushed { OnOk result (is_flushed_of out.new ≡ true) }
+    ensures counts { CountsPrint (failures_of out.old) (failures_of out.new) result }
+    ensures same_writer { writer_of out.new ≡ writer_of out.old }
 {
-    print_shown(shown, out)?;
-    flush(out)
+    for value in shown {
+        print_value(*value, out)?;
+    }
+    Ok(())
 }
 
 // Prints a shown value, with one call of the writer.
@@ -69,7 +57,8 @@ fn print_value<O: Write>(shown: Shown, out: &mut Counted<&mut O>) -> Result<(), 
     ensures printed { OnOk result (Appends (O.contents (inner_of out.old).now) (O.contents (inner_of out.new).now) (shown_line shown)) }
     ensures begun { OnErr result (AppendsSome (O.contents (inner_of out.old).now) (O.contents (inner_of out.new).now) (shown_line shown)) }
     ensures cause { OnErr result (result ≡ Err CommandRefusal.CannotPrint) }
-    ensures output { LeavesOutput RefusedUnprinted O.contents out.old out.new result }
+    ensures counts { CountsPrint (failures_of out.old) (failures_of out.new) result }
+    ensures same_writer { writer_of out.new ≡ writer_of out.old }
 {
     let mut room = [0; LONGEST];
     let start = fill_line(shown, &mut room);

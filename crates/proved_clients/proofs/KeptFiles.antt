@@ -1,15 +1,25 @@
 -- What a run over files in memory left there.
-use Rattle.std.proofs.Common.{◌≡◌, ◌≢◌, ℕ, Bool, true, false, List, Option, Result, Ok, Err, IfErr, OnOk, inl, inr, refl, subst}
+use Rattle.std.proofs.Common.{◌≡◌, ◌≢◌, ℕ, Bool, true, false, List, Option, None, Some, Result, Ok, Err, IfErr, OnOk, ap, inl, inr, refl, subst, sym}
 use Rattle.std.specs.Bool.{MatchBool}
+use Rattle.heap_layout.specs.Heap.{Heap}
+use Rattle.comp_dump.specs.DumpEncoding.{dump_bytes}
+use Rattle.comp_trace.specs.Bytes.{flipped, CutsShort}
+use Rattle.comp_trace.specs.declared.text.line.Line.{Line}
+use Rattle.comp_trace.specs.declared.text.fault.TraceFault.{TraceFault}
+use Rattle.comp_trace.specs.declared.steps.shown.Shown.{Shown}
+use Rattle.command_line.specs.declared.words.Task.{Task}
+use Rattle.command_line.specs.declared.words.Task.TheVariants.{Replay, Race}
 use Rattle.command_line.specs.declared.words.TraceRun.{TraceRun}
-use Rattle.command_io.specs.Disk.{names_failure, IsUnkept, LeavesCounted, RefusedUnmade}
-use Rattle.command_io.specs.Memory.{memory_disk, WrittenIsThere}
+use Rattle.command_io.specs.Disk.{names_failure, IsOfMaking, IsUnkept, LeavesCounted}
+use Rattle.command_io.specs.Memory.{memory_disk, HasPut, WrittenIsThere}
 use Rattle.command_io.specs.declared.memory.MemoryFiles.{MemoryFiles}
+use Rattle.command_io.specs.declared.refusal.Output.{Output}
 use Rattle.command_io.specs.declared.refusal.Output.TheVariants as outputs
 use Rattle.command_io.specs.declared.refusal.CommandRefusal.{CommandRefusal}
-use Rattle.command_io.specs.declared.refusal.CommandRefusal.TheVariants.{Layout, CannotWrite, Mutator, Sweep, Trace, Dump, Audit, Moved, Survey, CannotOpen, CannotCreate, ReadFailed, CannotPrint, NoSuchWord, BadMarks, OutOfMemory, BadRoots}
-use Rattle.commands.specs.RaceTask.{Races, RefusesRace}
-use Rattle.commands.specs.ReplayTask.{Replays, RefusesReplay, SomeRun}
+use Rattle.command_io.specs.declared.refusal.CommandRefusal.TheVariants.{CannotPrint}
+use Rattle.commands.specs.Outcome.{makes, stops, IsKept, IsUndelivered, Outcome}
+use Rattle.commands.specs.TraceTasks.{InterruptsRace, IsHaltedRun}
+use Rattle.commands.specs.Tasks.{DoesTask, IsOutcomeOf, RefusesTask}
 use Rattle.proved_clients.specs.KeptInMemory.{KeepsRaced, KeepsReplayed, KeptOrNot}
 
 -- beginning a file in memory changes none
@@ -25,56 +35,79 @@ same_counted from to refusal h = go (names_failure refusal) h
     go true same = same
     go false same = same
 
+-- nor a file that is not made
+same_making : (from to : MemoryFiles) (output : Output) (path bytes : List ℕ) (refusal : CommandRefusal) → IsOfMaking (memory_disk from) output path bytes from to refusal → to ≡ from
+same_making from to output path bytes refusal (inl (is, bars, counted)) = counted
+same_making from to output path bytes refusal (inr (inl (is, begun))) = begun.counted
+same_making from to output path bytes refusal (inr (inr (is, unkept))) = same_files from to unkept
+
 -- after a refusal for another cause than the output the files are as they were
-pub unchanged : (from to : MemoryFiles) (result : Result (Unit {0}) CommandRefusal) → RefusedUnmade (memory_disk from) from to result → IfErr result (λ refusal. refusal ≢ CannotPrint → to ≡ from)
-unchanged from to (Ok _) h = tt
-unchanged from to (Err (Layout fault)) h = λ other. same_counted from to (Layout fault) h
-unchanged from to (Err (Mutator refused)) h = λ other. same_counted from to (Mutator refused) h
-unchanged from to (Err (Sweep fault)) h = λ other. same_counted from to (Sweep fault) h
-unchanged from to (Err (Trace fault)) h = λ other. same_counted from to (Trace fault) h
-unchanged from to (Err (Dump fault)) h = λ other. same_counted from to (Dump fault) h
-unchanged from to (Err (Audit fault)) h = λ other. same_counted from to (Audit fault) h
-unchanged from to (Err (Moved fault)) h = λ other. same_counted from to (Moved fault) h
-unchanged from to (Err (Survey fault)) h = λ other. same_counted from to (Survey fault) h
-unchanged from to (Err (CannotWrite output)) h = λ other. same_counted from to (CannotWrite output) h
-unchanged from to (Err (CannotOpen input)) h = λ other. same_counted from to (CannotOpen input) h
-unchanged from to (Err (CannotCreate output)) h = λ other. same_counted from to (CannotCreate output) h
-unchanged from to (Err (ReadFailed input)) h = λ other. same_counted from to (ReadFailed input) h
-unchanged from to (Err CannotPrint) h = λ other. absurd (other refl)
-unchanged from to (Err (NoSuchWord index)) h = λ other. same_counted from to (NoSuchWord index) h
-unchanged from to (Err (BadMarks line)) h = λ other. same_counted from to (BadMarks line) h
-unchanged from to (Err (BadRoots line)) h = λ other. same_counted from to (BadRoots line) h
-unchanged from to (Err OutOfMemory) h = λ other. same_files from to h
+undelivered : (from to : MemoryFiles) (path : List ℕ) (outcome : Outcome) (old new : ℕ) (before after : Option (List ℕ)) (refusal : CommandRefusal)
+    → IsUndelivered (memory_disk from) path outcome from to old new before after refusal → refusal ≢ CannotPrint → to ≡ from
+undelivered from to path outcome old new before after refusal (inl h) other = h.files
+undelivered from to path outcome old new before after refusal (inr (inl h)) other = absurd (other h.refused)
+undelivered from to path outcome old new before after refusal (inr (inr h)) other = same_making from to h.made.0 path h.made.1 refusal h.cause
 
-module _ (there : WrittenIsThere) (from to : MemoryFiles) (asked : TraceRun) (before after : Option (List ℕ)) where
-  replayed : SomeRun (memory_disk from) asked (Replays (memory_disk from) asked to before after) → KeepsReplayed from asked to
-  replayed (bytes, is_there, (heap, stored, accepted, (known, (more, is_near, (text, is_text, (lines, has_lines, h)))))) =
-      (bytes, is_there, (heap, stored, accepted, (known, (more, is_near, (text, is_text, (lines, has_lines, (h.run, there from to outputs.Dump asked.dump.now _ h.written)))))))
+pub unchanged : (from to : MemoryFiles) (old new : ℕ) (before after : Option (List ℕ)) (task : Task) (result : Result (Unit {0}) CommandRefusal)
+    → IfErr result (RefusesTask (memory_disk from) from to old new before after task) → IfErr result (λ refusal. refusal ≢ CannotPrint → to ≡ from)
+unchanged from to old new before after task (Ok _) h = tt
+unchanged from to old new before after task (Err refusal) (inl h) = λ other. same_counted from to refusal h.files
+unchanged from to old new before after task (Err refusal) (inr (outcome, comes, h)) = undelivered from to _ outcome old new before after refusal h
 
-  raced : SomeRun (memory_disk from) asked (Races (memory_disk from) asked to before after) → KeepsRaced from asked to
-  raced (bytes, is_there, (heap, stored, accepted, (known, (more, is_near, (text, is_text, (lines, has_lines, h)))))) =
-      (bytes, is_there, (heap, stored, accepted, (known, (more, is_near, (text, is_text, (lines, has_lines, (h.race, there from to outputs.Dump asked.dump.now _ h.written)))))))
+-- an outcome that is a refusal is not delivered
+pub not_halted : (cuts : List Line → List Shown → TraceFault → Type 0) (lines : List Line) (outcome : Outcome) → IsHaltedRun cuts lines outcome → outcome.refusal ≡ None → ⊥
+not_halted cuts lines outcome (inl (fault, shown, cut, is)) none = let e = ap (λ (o : Outcome). o.refusal) is in cc
+not_halted cuts lines outcome (inr (inl is)) none = let e = ap (λ (o : Outcome). o.refusal) is in cc
+not_halted cuts lines outcome (inr (inr is)) none = let e = ap (λ (o : Outcome). o.refusal) is in cc
 
-  pub replayed_ok : (result : Result (Unit {0}) CommandRefusal) → OnOk result (SomeRun (memory_disk from) asked (Replays (memory_disk from) asked to before after)) → OnOk result (KeepsReplayed from asked to)
-  replayed_ok (Ok _) h = replayed h
-  replayed_ok (Err refusal) h = tt
+-- and it makes no file
+not_made : (cuts : List Line → List Shown → TraceFault → Type 0) (lines : List Line) (outcome : Outcome) → IsHaltedRun cuts lines outcome → outcome.made ≡ None
+not_made cuts lines outcome (inl (fault, shown, cut, is)) = ap (λ (o : Outcome). o.made) is
+not_made cuts lines outcome (inr (inl is)) = ap (λ (o : Outcome). o.made) is
+not_made cuts lines outcome (inr (inr is)) = ap (λ (o : Outcome). o.made) is
 
-  pub raced_ok : (result : Result (Unit {0}) CommandRefusal) → OnOk result (SomeRun (memory_disk from) asked (Races (memory_disk from) asked to before after)) → OnOk result (KeepsRaced from asked to)
-  raced_ok (Ok _) h = raced h
-  raced_ok (Err refusal) h = tt
+module _ (there : WrittenIsThere) (from to : MemoryFiles) (asked : TraceRun) where
+  -- what is kept of a dump that is made
+  put : (bytes text : List ℕ) (outcome : Outcome) → outcome ≡ makes outputs.Dump bytes text → IsKept (memory_disk from) asked.dump.now outcome.made from to → HasPut from asked.dump.now bytes to
+  put bytes text outcome is kept = there from to outputs.Dump asked.dump.now bytes (subst (λ (o : Outcome). IsKept (memory_disk from) asked.dump.now o.made from to) is kept)
 
-  unprinted_replay : RefusesReplay (memory_disk from) asked from to before after CannotPrint → KeptOrNot (KeepsReplayed from asked to) from to
-  unprinted_replay (bytes, is_there, (heap, stored, accepted, (known, (more, is_near, (text, is_text, (lines, has_lines, inl (left, written, begun))))))) =
-      inl (bytes, is_there, (heap, stored, accepted, (known, (more, is_near, (text, is_text, (lines, has_lines, (left, there from to outputs.Dump asked.dump.now _ written)))))))
-  unprinted_replay (bytes, is_there, (heap, stored, accepted, (known, (more, is_near, (text, is_text, (lines, has_lines, inr halted)))))) = inr halted.2
+  -- what is kept of a run
+  replayed : (outcome : Outcome) → IsOutcomeOf (memory_disk from) (Replay asked) outcome → IsKept (memory_disk from) asked.dump.now outcome.made from to → KeptOrNot (KeepsReplayed from asked to) from to
+  replayed outcome (heap, image, (lines, trace, inl (shown, f, ran, is))) kept = inl (heap, image, (lines, trace, (shown, f, ran, put _ _ outcome is kept)))
+  replayed outcome (heap, image, (lines, trace, inr halted)) kept = inr (subst (λ made. IsKept (memory_disk from) asked.dump.now made from to) (not_made (CutsShort (flipped heap asked.mutators asked.fresh)) lines outcome halted) kept)
 
-  unprinted_race : RefusesRace (memory_disk from) asked from to before after CannotPrint → KeptOrNot (KeepsRaced from asked to) from to
-  unprinted_race (bytes, is_there, (heap, stored, accepted, (known, (more, is_near, (text, is_text, (lines, has_lines, inl (left, written, begun))))))) =
-      inl (bytes, is_there, (heap, stored, accepted, (known, (more, is_near, (text, is_text, (lines, has_lines, (left, there from to outputs.Dump asked.dump.now _ written)))))))
-  unprinted_race (bytes, is_there, (heap, stored, accepted, (known, (more, is_near, (text, is_text, (lines, has_lines, inr halted)))))) = inr halted.2
+  raced : (outcome : Outcome) → IsOutcomeOf (memory_disk from) (Race asked) outcome → IsKept (memory_disk from) asked.dump.now outcome.made from to → KeptOrNot (KeepsRaced from asked to) from to
+  raced outcome (heap, image, (lines, trace, inl (shown, f, race, is))) kept = inl (heap, image, (lines, trace, (shown, f, race, put _ _ outcome is kept)))
+  raced outcome (heap, image, (lines, trace, inr halted)) kept = inr (subst (λ made. IsKept (memory_disk from) asked.dump.now made from to) (not_made (InterruptsRace asked.mutators asked.fresh heap) lines outcome halted) kept)
 
-  pub replay_unprinted : (result : Result (Unit {0}) CommandRefusal) → IfErr result (RefusesReplay (memory_disk from) asked from to before after) → result ≡ Err CannotPrint → KeptOrNot (KeepsReplayed from asked to) from to
-  replay_unprinted result h is = unprinted_replay (subst (λ (r : Result (Unit {0}) CommandRefusal). IfErr r (RefusesReplay (memory_disk from) asked from to before after)) is h)
+  module _ (old new : ℕ) (before after : Option (List ℕ)) where
+    pub replayed_ok : (result : Result (Unit {0}) CommandRefusal) → OnOk result (DoesTask (memory_disk from) from to before after (Replay asked)) → OnOk result (KeepsReplayed from asked to)
+    replayed_ok (Ok _) (outcome, (heap, image, (lines, trace, inl (shown, f, ran, is))), done) = (heap, image, (lines, trace, (shown, f, ran, put _ _ outcome is done.kept)))
+    replayed_ok (Ok _) (outcome, (heap, image, (lines, trace, inr halted)), done) = absurd (not_halted (CutsShort (flipped heap asked.mutators asked.fresh)) lines outcome halted done.unrefused)
+    replayed_ok (Err refusal) h = tt
 
-  pub race_unprinted : (result : Result (Unit {0}) CommandRefusal) → IfErr result (RefusesRace (memory_disk from) asked from to before after) → result ≡ Err CannotPrint → KeptOrNot (KeepsRaced from asked to) from to
-  race_unprinted result h is = unprinted_race (subst (λ (r : Result (Unit {0}) CommandRefusal). IfErr r (RefusesRace (memory_disk from) asked from to before after)) is h)
+    pub raced_ok : (result : Result (Unit {0}) CommandRefusal) → OnOk result (DoesTask (memory_disk from) from to before after (Race asked)) → OnOk result (KeepsRaced from asked to)
+    raced_ok (Ok _) (outcome, (heap, image, (lines, trace, inl (shown, f, race, is))), done) = (heap, image, (lines, trace, (shown, f, race, put _ _ outcome is done.kept)))
+    raced_ok (Ok _) (outcome, (heap, image, (lines, trace, inr halted)), done) = absurd (not_halted (InterruptsRace asked.mutators asked.fresh heap) lines outcome halted done.unrefused)
+    raced_ok (Err refusal) h = tt
+
+    -- whatever the cause is, the dump is kept or nothing changed
+    kept_or_not : (task : Task) (P : Type 0) → ((outcome : Outcome) → IsOutcomeOf (memory_disk from) task outcome → IsKept (memory_disk from) asked.dump.now outcome.made from to → KeptOrNot P from to)
+        → (refusal : CommandRefusal) → (outcome : Outcome) → IsOutcomeOf (memory_disk from) task outcome → IsUndelivered (memory_disk from) asked.dump.now outcome from to old new before after refusal → KeptOrNot P from to
+    kept_or_not task P f refusal outcome comes (inl h) = inr h.files
+    kept_or_not task P f refusal outcome comes (inr (inl h)) = f outcome comes h.kept
+    kept_or_not task P f refusal outcome comes (inr (inr h)) = inr (same_making from to h.made.0 asked.dump.now h.made.1 refusal h.cause)
+
+    unprinted_replay : (refusal : CommandRefusal) → RefusesTask (memory_disk from) from to old new before after (Replay asked) refusal → KeptOrNot (KeepsReplayed from asked to) from to
+    unprinted_replay refusal (inl h) = inr (same_counted from to refusal h.files)
+    unprinted_replay refusal (inr (outcome, comes, h)) = kept_or_not (Replay asked) (KeepsReplayed from asked to) replayed refusal outcome comes h
+
+    unprinted_race : (refusal : CommandRefusal) → RefusesTask (memory_disk from) from to old new before after (Race asked) refusal → KeptOrNot (KeepsRaced from asked to) from to
+    unprinted_race refusal (inl h) = inr (same_counted from to refusal h.files)
+    unprinted_race refusal (inr (outcome, comes, h)) = kept_or_not (Race asked) (KeepsRaced from asked to) raced refusal outcome comes h
+
+    pub replay_unprinted : (result : Result (Unit {0}) CommandRefusal) → IfErr result (RefusesTask (memory_disk from) from to old new before after (Replay asked)) → result ≡ Err CannotPrint → KeptOrNot (KeepsReplayed from asked to) from to
+    replay_unprinted result h is = unprinted_replay CannotPrint (subst (λ (r : Result (Unit {0}) CommandRefusal). IfErr r (RefusesTask (memory_disk from) from to old new before after (Replay asked))) is h)
+
+    pub race_unprinted : (result : Result (Unit {0}) CommandRefusal) → IfErr result (RefusesTask (memory_disk from) from to old new before after (Race asked)) → result ≡ Err CannotPrint → KeptOrNot (KeepsRaced from asked to) from to
+    race_unprinted result h is = unprinted_race CannotPrint (subst (λ (r : Result (Unit {0}) CommandRefusal). IfErr r (RefusesTask (memory_disk from) from to old new before after (Race asked))) is h)

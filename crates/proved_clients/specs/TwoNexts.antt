@@ -4,16 +4,19 @@ use Rattle.heap_layout.specs.Encoding.{encoding}
 use Rattle.heap_layout.specs.Heap.{Heap}
 use Rattle.comp_mutator.specs.Cycles.{IsOneLife}
 use Rattle.comp_trace.specs.declared.steps.shown.Shown.{Shown}
-use Rattle.command_line.specs.NextArguments.{marks_path, roots_path}
+use Rattle.command_line.specs.declared.next.NextMarks.{NextMarks}
+use Rattle.command_line.specs.declared.next.NextMarks.TheVariants.{Given, Reachable, ReachableFrom}
 use Rattle.command_line.specs.declared.next.NextRun.{NextRun}
 use Rattle.command_io.specs.Memory.{bytes_at, HasPut}
 use Rattle.command_io.specs.declared.memory.MemoryFiles.{MemoryFiles}
 use Rattle.commands.specs.Successors.{IsNext}
 
--- these are the bytes at the path of the marks, or of the roots; there are none if there is no such path
-abbrev pub AreListedAt : MemoryFiles → Option (List ℕ) → Option (List ℕ) → Type 0
-AreListedAt from (Some path) listed = (bytes : List ℕ) × (bytes_at from path ≡ Some bytes) × (listed ≡ Some bytes)
-AreListedAt from None listed = listed ≡ None
+-- these are the bytes at the path of the marks, and those at the path of the roots; there are none if there is no such
+-- path
+abbrev pub AreListedAt : MemoryFiles → NextMarks → Option (List ℕ) → Option (List ℕ) → Type 0
+AreListedAt from (Given path) marks roots = (bytes : List ℕ) × (bytes_at from path.now ≡ Some bytes) × (marks ≡ Some bytes) × (roots ≡ None)
+AreListedAt from Reachable marks roots = (marks ≡ None) × (roots ≡ None)
+AreListedAt from (ReachableFrom path) marks roots = (bytes : List ℕ) × (bytes_at from path.now ≡ Some bytes) × (marks ≡ None) × (roots ≡ Some bytes)
 
 -- A run of `next`, by the bytes at the paths that are asked for: the image of the next heap was put at its path, and
 -- each other path has what it had.
@@ -23,9 +26,8 @@ pub record KeepsNext (from : MemoryFiles) (asked : NextRun) (to : MemoryFiles) :
   pub text : List ℕ
   pub text_at : bytes_at from asked.trace.now ≡ Some text
   pub listed : Option (List ℕ)
-  pub marks_at : AreListedAt from (marks_path asked.marks) listed
   pub named : Option (List ℕ)
-  pub roots_at : AreListedAt from (roots_path asked.marks) named
+  pub listed_at : AreListedAt from asked.marks listed named
   pub shown : List Shown
   pub next : Heap
   pub run : IsNext asked.mutators asked.fresh image text listed named shown next

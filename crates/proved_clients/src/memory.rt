@@ -5,8 +5,8 @@ ghost use Rattle.command_io.specs.declared.refusal.CommandRefusal.TheVariants as
 ghost use Rattle.proved_clients.specs.KeptInMemory.{KeepsRaced, KeepsReplayed, KeptOrNot};
 
 use command_io::{CommandRefusal, MemoryFiles};
-use command_line::TraceRun;
-use commands::{print_race, print_replay};
+use command_line::{Task, TraceRun};
+use commands::perform;
 use heap_layout::Counted;
 use std::alloc::Global;
 use std::io::Write;
@@ -16,9 +16,9 @@ use std::thread::Threads;
 /// Replays a trace over files in memory. If it is done, the dump of the run is at its path, whole, and each other path
 /// has what it had. If a call of the output failed, that holds, or all files are as they were. After any other refusal
 /// all files are as they were.
-pub fn replay_in_memory<O: Write>(
+pub fn replay_in_memory<R: Threads + Wait + Sync, O: Write>(
     alloc: Global,
-    rt: &(impl Threads + Sync),
+    rt: &R,
     files: &mut MemoryFiles,
     asked: TraceRun<'_>,
     out: &mut Counted<&mut O>,
@@ -31,7 +31,7 @@ pub fn replay_in_memory<O: Write>(
     ensures refused { IfErr result (λ refusal. refusal ≢ refusals.CannotPrint → files.new ≡ files.old) }
 {
     command_io::written_is_there();
-    print_replay(alloc, rt, files, asked, out)
+    perform(alloc, rt, files, Task::Replay(asked), out)
 }
 
 /// The same of a race.
@@ -50,5 +50,5 @@ pub fn race_in_memory<R: Threads + Wait + Sync, O: Write>(
     ensures refused { IfErr result (λ refusal. refusal ≢ refusals.CannotPrint → files.new ≡ files.old) }
 {
     command_io::written_is_there();
-    print_race(alloc, rt, files, asked, out)
+    perform(alloc, rt, files, Task::Race(asked), out)
 }

@@ -5,6 +5,7 @@ use command_io::CommandRefusal;
 use comp_dump::{AuditFault, DumpFault};
 use heap_layout::TO_SPACE as T;
 use std::process::Abort;
+use std::sync::Wait;
 use std::thread::Threads;
 use test_support::{
     Change, Content, FIRST_DATA, HEADER_OFFSET, HEADER_STAMP, LAST_PAGE, LAST_WORD, REFERENCE,
@@ -16,7 +17,7 @@ type Forgery = (&'static str, Change, Change, CommandRefusal);
 
 // Whether a dump is refused so for the heap of an image, with nothing printed.
 fn is_refused(
-    rt: &(impl AllocGlobal + Threads + Sync),
+    rt: &(impl AllocGlobal + Threads + Wait + Sync),
     image: &[u8],
     dump: &[u8],
     refusal: CommandRefusal,
@@ -37,7 +38,7 @@ fn is_refused(
 
 // Checks these forgeries.
 fn expect_refused(
-    rt: &(impl Abort + AllocGlobal + Threads + Sync),
+    rt: &(impl Abort + AllocGlobal + Threads + Wait + Sync),
     image: &[u8],
     forgeries: &[Forgery],
 ) {
@@ -49,7 +50,7 @@ fn expect_refused(
 }
 
 /// Forgeries of the dump after the run that makes a new object in the heap of three objects.
-pub fn expect_forgeries(rt: &(impl Abort + AllocGlobal + Threads + Sync), three: &[u8]) {
+pub fn expect_forgeries(rt: &(impl Abort + AllocGlobal + Threads + Wait + Sync), three: &[u8]) {
     expect_refused(rt, three, &FORGED);
 }
 

@@ -1,8 +1,8 @@
 //! Dumps and new images in files of a device that is soon full, that cannot rename, that sets no permissions, or that
 //! lets no file at the path be written. The file at the path stays as it was, and no other file is left.
-use command_io::{CommandRefusal, Files, Output, RuntimeFiles, write_dump_to, write_image_to};
-use comp_dump::{Dump, DumpFault, read_dump};
-use heap_layout::{Counted, LayoutFault, MarkedHeap, read_image};
+use command_io::{CommandRefusal, Files, Made, Output, RuntimeFiles, write_to};
+use comp_dump::{DumpFault, read_dump};
+use heap_layout::{Counted, LayoutFault, read_image};
 use std::alloc::Allocator;
 use std::fs::{self, Metadata, OpenFile, OpenOptions, Permissions};
 use std::io::{Error, ErrorKind, Read, Result as IoResult, Seek, SeekFrom, Write};
@@ -204,36 +204,21 @@ fn bytes_at<R: rt::Files + AllocGlobal>(rt: &R, path: &str) -> Option<Vec<u8>> {
     fs::read(rt, path).ok()
 }
 
-// Writes the image of this heap to a device, or else a dump.
-fn write<R: rt::Files + AllocGlobal>(
-    rt: &R,
-    dump: &Dump<'_>,
-    heap: Option<&MarkedHeap>,
-) -> Result<(), CommandRefusal> {
-    let mut files = RuntimeFiles::new(rt);
-    match heap {
-        Some(heap) => write_image_to(&mut files, PATH, heap),
-        None => write_dump_to(&mut files, PATH, dump),
-    }
+// The bytes of a file that is made.
+#[derive(Drop)]
+struct WholeFile<'a> {
+    bytes: &'a [u8],
+    // The answers if it is created, but not written whole, and if it cannot be created.
+    cut: CommandRefusal,
+    uncreated: CommandRefusal,
 }
 
-// The answer if the file is not written whole. It may not even be created.
-fn refused(heap: Option<&MarkedHeap>, created: bool) -> CommandRefusal {
-    match (heap, created) {
-        (Some(_), true) => CommandRefusal::Layout(LayoutFault::Device),
-        (Some(_), false) => CommandRefusal::CannotCreate(Output::New),
-        (None, true) => CommandRefusal::Dump(DumpFault::Device),
-        (None, false) => CommandRefusal::CannotCreate(Output::Dump),
-    }
-}
-
-// Writes these bytes to a device. Checks that the path has all of them, or what it had before, and that no file is left
+// Makes a file on a device. Checks that the path has all of its bytes, or what it had before, and that no file is left
 // beside it.
 fn expect_file<R: Abort + rt::Files + AllocGlobal>(
     rt: &R,
-    dump: &Dump<'_>,
-    heap: Option<&MarkedHeap>,
-    bytes: &[u8],
+    made: &Made<'_>,
+    file: &WholeFile<'_>,
     limits: &DeviceLimits,
     before: Option<&[u8]>,
 ) {
@@ -243,25 +228,27 @@ fn expect_file<R: Abort + rt::Files + AllocGlobal>(
     let device = (
         Device {
             rt,
-            room: bytes.len().saturating_sub(limits.lacks),
+            room: file.bytes.len().saturating_sub(limits.lacks),
             renames: limits.renames,
             permits: limits.permits,
             opens: limits.opens,
         },
         rt.alloc(),
     );
-    let found = write(&device, dump, heap);
+    let found = write_to(&mut RuntimeFiles::new(&device), PATH, made);
     let whole = match before {
         None => limits.whole.0,
         Some(_) => limits.whole.1,
     };
-    let wanted = match whole {
-        true => Ok(()),
-        false => Err(refused(heap, (limits.permits && limits.opens) || before.is_none())),
+    let created = (limits.permits && limits.opens) || before.is_none();
+    let wanted = match (whole, created) {
+        (true, _) => Ok(()),
+        (false, true) => Err(file.cut),
+        (false, false) => Err(file.uncreated),
     };
     let left = bytes_at(rt, PATH);
     let is_left = match (&left, whole) {
-        (Some(left), true) => left.as_slice() == bytes,
+        (Some(left), true) => left.as_slice() == file.bytes,
         (Some(left), false) => Some(left.as_slice()) == before,
         (None, whole) => !whole && before.is_none(),
     };
@@ -278,23 +265,11 @@ fn expect_file<R: Abort + rt::Files + AllocGlobal>(
     }
 }
 
-// Writes these bytes to each of the devices, over a file and without one.
-fn expect_files<R: Abort + rt::Files + AllocGlobal>(
-    rt: &R,
-    dump: &Dump<'_>,
-    heap: Option<&MarkedHeap>,
-    bytes: &[u8],
-) {
+// Makes a file on each of the devices, over a file and without one.
+fn expect_files<R: Abort + rt::Files + AllocGlobal>(rt: &R, made: &Made<'_>, file: &WholeFile<'_>) {
     for limits in &LIMITS {
-        expect_file(rt, dump, heap, bytes, limits, None);
-        expect_file(
-            rt,
-            dump,
-            heap,
-            bytes,
-            limits,
-            Some(b"what was there before"),
-        );
+        expect_file(rt, made, file, limits, None);
+        expect_file(rt, made, file, limits, Some(b"what was there before"));
     }
 }
 
@@ -324,9 +299,19 @@ pub fn expect_filled<R: Abort + rt::Files + AllocGlobal>(rt: &R, dump: &[u8], im
     // An earlier run of this test that was killed may have left its files.
     let _ = fs::remove_file(rt, PART);
     let _ = fs::remove_file(rt, PATH);
-    let made = read_dump(rt.alloc(), &mut Counted::new(dump)).expect(rt, "a dump");
+    let left = read_dump(rt.alloc(), &mut Counted::new(dump)).expect(rt, "a dump");
     let heap = read_image(rt.alloc(), &mut Counted::new(image)).expect(rt, "a heap");
-    expect_files(rt, &made, None, dump);
-    expect_files(rt, &made, Some(&heap), image);
+    let whole_dump = WholeFile {
+        bytes: dump,
+        cut: CommandRefusal::Dump(DumpFault::Device),
+        uncreated: CommandRefusal::CannotCreate(Output::Dump),
+    };
+    let whole_image = WholeFile {
+        bytes: image,
+        cut: CommandRefusal::Layout(LayoutFault::Device),
+        uncreated: CommandRefusal::CannotCreate(Output::New),
+    };
+    expect_files(rt, &Made::Dump(&left), &whole_dump);
+    expect_files(rt, &Made::Image(&heap), &whole_image);
     expect_given_up(rt);
 }

@@ -1,9 +1,11 @@
 //! Markings on files in memory: the new image and the printed line, also with writers that fail.
 use crate::memory_files::{Memory, Place};
 use command_io::{CommandRefusal, Input, Output};
-use commands::print_mark;
+use command_line::Task;
+use commands::perform;
 use heap_layout::{Counted, LayoutFault};
 use std::process::Abort;
+use std::sync::Wait;
 use std::thread::Threads;
 use test_support::{Content, Failure, Narrow, bytes_in};
 
@@ -30,22 +32,18 @@ const LINE: &str = "live 4\n";
 
 // Marks the heap of an image as a marking says.
 fn mark(
-    rt: &(impl AllocGlobal + Threads + Sync),
+    rt: &(impl AllocGlobal + Threads + Wait + Sync),
     marking: &Marking,
     place: &mut Place,
     out: &mut Narrow,
 ) -> Result<(), CommandRefusal> {
-    let mut counted = Counted::new(&mut *out);
-    print_mark(
-        rt.alloc(),
-        rt,
-        place,
-        marking.image,
-        marking.path,
-        2,
-        false,
-        &mut counted,
-    )
+    let task = Task::Mark {
+        image: marking.image,
+        new: marking.path,
+        workers: 2,
+        large: false,
+    };
+    perform(rt.alloc(), rt, place, task, &mut Counted::new(out))
 }
 
 // What is printed if a marking is answered so.
@@ -59,7 +57,7 @@ fn printed_of(marking: &Marking) -> &'static str {
 
 // Checks a marking.
 fn expect_marking(
-    rt: &(impl Abort + AllocGlobal + Threads + Sync),
+    rt: &(impl Abort + AllocGlobal + Threads + Wait + Sync),
     memory: &Memory,
     marking: &Marking,
 ) {
@@ -106,7 +104,7 @@ fn expect_marking(
 
 /// Checks markings of the three objects on files in memory, also with an output that takes fewer bytes than the line
 /// has.
-pub fn expect_marked(rt: &(impl Abort + AllocGlobal + Threads + Sync), memory: &Memory) {
+pub fn expect_marked(rt: &(impl Abort + AllocGlobal + Threads + Wait + Sync), memory: &Memory) {
     for marking in &MARKINGS {
         expect_marking(rt, memory, marking);
     }

@@ -1,12 +1,13 @@
 //! Cycles on files in memory: the image of the next heap and the printed lines, also with writers that fail.
 use crate::memory_files::{Memory, Place};
 use command_io::{CommandRefusal, Input, Output};
-use command_line::{NextMarks, NextRun};
-use commands::print_next;
+use command_line::{NextMarks, NextRun, Task};
+use commands::perform;
 use comp_access::Refusal;
 use comp_trace::TraceFault;
 use heap_layout::{Counted, FROM_SPACE as F, LayoutFault};
 use std::process::Abort;
+use std::sync::Wait;
 use std::thread::Threads;
 use test_support::{Failure, Narrow, Part, bytes_of};
 
@@ -44,12 +45,12 @@ const NEW_IMAGE: [Part; 6] = [
 
 // Writes the new image as a cycle says.
 fn write_next(
-    rt: &(impl AllocGlobal + Threads + Sync),
+    rt: &(impl AllocGlobal + Threads + Wait + Sync),
     cycle: &NextCycle,
     place: &mut Place,
     out: &mut Narrow,
 ) -> Result<(), CommandRefusal> {
-    let asked = NextRun {
+    let task = Task::Next(NextRun {
         image: "three.img",
         trace: cycle.trace,
         marks: NextMarks::Given(cycle.marks),
@@ -58,14 +59,13 @@ fn write_next(
         fresh: 2,
         workers: 1,
         large: false,
-    };
-    let mut counted = Counted::new(&mut *out);
-    print_next(rt.alloc(), rt, place, asked, &mut counted)
+    });
+    perform(rt.alloc(), rt, place, task, &mut Counted::new(out))
 }
 
 // Checks a cycle.
 fn expect_cycle(
-    rt: &(impl Abort + AllocGlobal + Threads + Sync),
+    rt: &(impl Abort + AllocGlobal + Threads + Wait + Sync),
     memory: &Memory,
     cycle: &NextCycle,
 ) {
@@ -108,7 +108,7 @@ fn expect_cycle(
 
 // Checks a cycle whose text finds room for each smaller number of bytes.
 fn expect_cut(
-    rt: &(impl Abort + AllocGlobal + Threads + Sync),
+    rt: &(impl Abort + AllocGlobal + Threads + Wait + Sync),
     memory: &Memory,
     cycle: &NextCycle,
 ) {
@@ -124,7 +124,7 @@ fn expect_cut(
 }
 
 /// Checks cycles of the three objects on files in memory.
-pub fn expect_cycles(rt: &(impl Abort + AllocGlobal + Threads + Sync), memory: &Memory) {
+pub fn expect_cycles(rt: &(impl Abort + AllocGlobal + Threads + Wait + Sync), memory: &Memory) {
     for cycle in &REFUSED {
         expect_cycle(rt, memory, cycle);
     }

@@ -2,11 +2,12 @@
 //! also with writers that fail.
 use crate::memory_files::{File, Place};
 use command_io::{CommandRefusal, Input, Output};
-use command_line::MapRun;
-use commands::print_map;
+use command_line::{MapRun, Task};
+use commands::perform;
 use comp_dump::DumpFault;
 use heap_layout::{Counted, LayoutFault};
 use std::process::Abort;
+use std::sync::Wait;
 use std::thread::Threads;
 use test_support::{Failure, Narrow};
 
@@ -42,7 +43,7 @@ struct Drawn {
 }
 
 // Asks for this picture, of which the writer takes this number of bytes.
-fn ask<R: Abort + AllocGlobal + Threads + Sync>(
+fn ask<R: Abort + AllocGlobal + Threads + Wait + Sync>(
     rt: &R,
     files: &[File],
     asked: &AskedPicture,
@@ -66,14 +67,14 @@ fn ask<R: Abort + AllocGlobal + Threads + Sync>(
         at_once: usize::MAX,
         failure: Failure::TakesNone,
     };
-    let run = MapRun {
+    let task = Task::Map(MapRun {
         image: asked.image,
         dump: asked.dump,
         out: asked.path,
         large: false,
-    };
+    });
     let mut counted = Counted::new(&mut out);
-    let answer = print_map(rt.alloc(), rt, &mut place, run, &mut counted);
+    let answer = perform(rt.alloc(), rt, &mut place, task, &mut counted);
     let begun = place.writer.is_none();
     let kept = place.kept;
     Drawn {
@@ -95,7 +96,7 @@ fn printed_of(asked: &AskedPicture) -> &'static str {
 }
 
 // Checks a picture: `whole` is the one that is written if nothing fails.
-fn expect_picture<R: Abort + AllocGlobal + Threads + Sync>(
+fn expect_picture<R: Abort + AllocGlobal + Threads + Wait + Sync>(
     rt: &R,
     files: &[File],
     asked: &AskedPicture,
@@ -127,7 +128,7 @@ fn expect_picture<R: Abort + AllocGlobal + Threads + Sync>(
 }
 
 // A picture that is not refused. It is an SVG to its end, and has this text in it.
-fn picture_with<R: Abort + AllocGlobal + Threads + Sync>(
+fn picture_with<R: Abort + AllocGlobal + Threads + Wait + Sync>(
     rt: &R,
     files: &[File],
     asked: &AskedPicture,
@@ -152,7 +153,7 @@ fn picture_with<R: Abort + AllocGlobal + Threads + Sync>(
 
 /// Checks pictures of the three objects: without a dump, with the dump after the run that makes a new object, and with
 /// that dump in which a data word is wrong. A fault is drawn, and is no refusal.
-pub fn expect_maps<'a, R: Abort + AllocGlobal + Threads + Sync>(
+pub fn expect_maps<'a, R: Abort + AllocGlobal + Threads + Wait + Sync>(
     rt: &R,
     three: &'a [u8],
     fresh: &'a [u8],

@@ -1,10 +1,12 @@
 //! Compactions and replays on files in memory: the dump and the printed line, and the refusals.
+ghost use Rattle.command_line.specs.AskedTasks.{HasLawfulCounts};
+
 use crate::memory_files::{File, Memory, Place};
 use crate::printed_answers::{Asked, is_answered};
 use crate::whole_dumps::{Dump, agree_but_for_builds, dump_of};
 use command_io::{CommandRefusal, Input};
-use command_line::TraceRun;
-use commands::{print_compact, print_replay};
+use command_line::{Task, TraceRun};
+use commands::perform;
 use comp_dump::DumpFault;
 use heap_layout::{Counted, LayoutFault};
 use std::process::Abort;
@@ -42,6 +44,34 @@ pub struct DumpingCommand {
     left: usize,
 }
 
+// The task of a command. Aborts unless its numbers of workers and of fresh pages are lawful.
+fn task_of(rt: &impl Abort, command: &DumpingCommand) -> Task<'static>
+    ensures { HasLawfulCounts result }
+{
+    match command.writing {
+        Writing::Compact(workers) => {
+            assert!(rt; 1 <= workers && workers <= 64);
+            Task::Compact {
+                image: command.image,
+                dump: command.path,
+                workers,
+                large: false,
+            }
+        }
+        Writing::Replay(trace, fresh) => {
+            assert!(rt; fresh <= 4_096);
+            Task::Replay(TraceRun {
+                image: command.image,
+                trace,
+                dump: command.path,
+                mutators: 1,
+                fresh,
+                large: false,
+            })
+        }
+    }
+}
+
 // Writes a dump as this command says.
 fn write_dump<R: Abort + AllocGlobal + Threads + Wait + Sync>(
     rt: &R,
@@ -49,34 +79,8 @@ fn write_dump<R: Abort + AllocGlobal + Threads + Wait + Sync>(
     place: &mut Place,
     out: &mut Narrow,
 ) -> Result<(), CommandRefusal> {
-    let mut counted = Counted::new(out);
-    match command.writing {
-        Writing::Compact(workers) => {
-            assert!(rt; 1 <= workers && workers <= 64);
-            print_compact(
-                rt.alloc(),
-                rt,
-                place,
-                command.image,
-                command.path,
-                workers,
-                false,
-                &mut counted,
-            )
-        }
-        Writing::Replay(trace, fresh) => {
-            assert!(rt; fresh <= 4_096);
-            let asked = TraceRun {
-                image: command.image,
-                trace,
-                dump: command.path,
-                mutators: 1,
-                fresh,
-                large: false,
-            };
-            print_replay(rt.alloc(), rt, place, asked, &mut counted)
-        }
-    }
+    let task = task_of(rt, command);
+    perform(rt.alloc(), rt, place, task, &mut Counted::new(out))
 }
 
 // Whether this is the dump of the command, as far as it goes. If several workers sweep, the lists of builds may be any.
@@ -91,7 +95,7 @@ fn is_dump(command: &DumpingCommand, dumped: &[u8], whole: &[u8]) -> bool {
 
 // If several workers swept, checks that the audit accepts the dump.
 fn is_judged(
-    rt: &(impl AllocGlobal + Threads + Sync),
+    rt: &(impl AllocGlobal + Threads + Wait + Sync),
     command: &DumpingCommand,
     image: &[u8],
     dumped: &[u8],

@@ -1,19 +1,22 @@
-use Rattle.std.proofs.Common.{◌≡◌}
+use Rattle.std.proofs.Common.{◌≡◌, inl}
 use Rattle.std.proofs.lemmas.Result.{err_from_is_err_and}
 use Rattle.heap_layout.specs.Counted.{inner_of}
-use Rattle.command_io.specs.Images.{IsImageOf, RefusesAt, RefusesImage}
+use Rattle.command_io.specs.Images.{IsImageOf, RefusesImage}
 use Rattle.command_io.specs.declared.refusal.Input.TheVariants.{Image}
-use Rattle.command_io.proofs.Ended.{of_file}
-use Rattle.command_io.proofs.Opened.{opened}
+use Rattle.command_io.proofs.Ended.{of_file, refused_file}
 use Rattle.command_io.proofs.images.heap_at.Goals as goal
 
 pub returns-in_err-open-clause-cause : goal.returns-in_err-open-clause-cause
 returns-in_err-open-clause-cause g c =
     let p = err_from_is_err_and c.from_residual.result c.from_residual.ensures.1 in
-    let disk = g.F.Files.disk c.args.files.now in
-    rw (p.1, p.2) (opened Image (disk.lacks Image c.args.path.now) (RefusesAt disk c.args.large c.args.path.now RefusesImage) (λ h. h) tt _ c.in_err-open.ensures.cause)
+    rw (p.1, p.2) (inl c.in_err-open.ensures.cause)
 
 pub returns-clause-heap : goal.returns-clause-heap
 returns-clause-heap g c =
     of_file (g.F.Files.disk c.args.files.now) Image c.args.path.now g.F.Reader.Read.remaining c.in_ok-open.field-0 (inner_of c.new-reader.result) (λ heap. IsImageOf c.args.large (λ other. other ≡ heap))
     c.image_in-read.result c.end_reading.result c.in_ok-open.ensures.given c.new-reader.ensures.inner c.image_in-read.ensures.heap c.end_reading.ensures.same
+
+pub returns-clause-cause : goal.returns-clause-cause
+returns-clause-cause g c =
+    refused_file (g.F.Files.disk c.args.files.now) Image c.args.path.now g.F.Reader.Read.remaining c.in_ok-open.field-0 (inner_of c.new-reader.result) (RefusesImage c.args.large)
+    c.image_in-read.result c.end_reading.result c.in_ok-open.ensures.given c.new-reader.ensures.inner c.image_in-read.ensures.cause c.end_reading.ensures.same

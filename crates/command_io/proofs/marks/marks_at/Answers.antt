@@ -1,11 +1,17 @@
+use Rattle.std.proofs.Common.{inl}
 use Rattle.std.proofs.lemmas.Result.{err_from_is_err_and}
-use Rattle.command_io.specs.MarksAtPath.{RefusesMarksAt}
+use Rattle.heap_layout.specs.Counted.{inner_of}
+use Rattle.command_io.specs.Texts.{RefusesMarksText}
 use Rattle.command_io.specs.declared.refusal.Input.TheVariants.{Marks}
-use Rattle.command_io.proofs.Opened.{opened}
+use Rattle.command_io.proofs.Ended.{refused_file}
 use Rattle.command_io.proofs.marks.marks_at.Goals as goal
 
 pub returns-in_err-open-clause-cause : goal.returns-in_err-open-clause-cause
 returns-in_err-open-clause-cause g c =
     let p = err_from_is_err_and c.from_residual.result c.from_residual.ensures.1 in
-    let disk = g.F.Files.disk c.args.files.now in
-    rw (p.1, p.2) (opened Marks (disk.lacks Marks c.args.path.now) (RefusesMarksAt disk c.args.path.now) (λ h. h) tt _ c.in_err-open.ensures.cause)
+    rw (p.1, p.2) (inl c.in_err-open.ensures.cause)
+
+pub returns-clause-cause : goal.returns-clause-cause
+returns-clause-cause g c =
+    refused_file (g.F.Files.disk c.args.files.now) Marks c.args.path.now g.F.Reader.Read.remaining c.in_ok-open.field-0 (inner_of c.new-reader.result) (RefusesMarksText)
+    c.marks_in-read.result c.end_reading.result c.in_ok-open.ensures.given c.new-reader.ensures.inner c.marks_in-read.ensures.cause c.end_reading.ensures.same

@@ -4,7 +4,7 @@ use Rattle.std.proofs.lemmas.List.Elements.{All-get_or}
 use Rattle.comp_trace.specs.declared.text.line.Line.{Line}
 use Rattle.comp_trace.specs.declared.text.line.Action.TheVariants.{Root}
 use Rattle.comp_trace.specs.declared.steps.shown.Shown.{Shown}
-use Rattle.commands.specs.ByLine.{AreByLine}
+use Rattle.commands.specs.TraceTasks.{AreByLine}
 use Rattle.commands.proofs.Walking.{left_all, left_of, listed, none_there, shown_by, printed_after, printed_by_line, walk_on, walked}
 use Rattle.commands.proofs.by_line.by_line.Goals as goal
 use Rattle.commands.proofs.by_line.by_line.Goals.{in-Some, in_default}

@@ -2,7 +2,7 @@ use Rattle.std.proofs.Common.{ℕ, IfOk, refl, subst, sym}
 use Rattle.std.proofs.lemmas.Result.{IfErr-weaker, IfOk-weaker}
 use Rattle.comp_mutator.specs.Finishes.{IsOfFlip}
 use Rattle.comp_mutator.specs.Mutators.{setup_of}
-use Rattle.commands.specs.Compact.{IsOfSweeping}
+use Rattle.commands.specs.HeapTasks.{IsOfSweeping}
 use Rattle.commands.proofs.Swept.{none_missing, swept_heap}
 use Rattle.commands.proofs.compact.sweep_and_finish.Goals as goal
 

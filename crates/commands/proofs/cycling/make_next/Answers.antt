@@ -2,7 +2,7 @@ use Rattle.std.proofs.Common.{ℕ, List, IfErr, IfOk, length, subst, sym}
 use Rattle.std.proofs.lemmas.Result.{IfErr-weaker, IfOk-weaker}
 use Rattle.comp_trace.specs.Replays.{Hold}
 use Rattle.comp_trace.specs.RootsNamed.{words_named}
-use Rattle.commands.specs.Cycled.{given_by, IsNextHeap, IsUnmarked}
+use Rattle.commands.specs.Following.{given_by, IsNextHeap, IsUnmarked}
 use Rattle.commands.specs.declared.cycling.Handed.{Handed}
 use Rattle.commands.proofs.CycledHeaps.{named_by, next_named, refused_named}
 use Rattle.commands.proofs.cycling.make_next.Goals as goal

@@ -1,7 +1,7 @@
 use Rattle.heap_layout.specs.Heap.{Heap}
 use Rattle.std.proofs.Common.{None, subst}
 use Rattle.command_io.specs.declared.refusal.CommandRefusal.TheVariants.{Layout}
-use Rattle.commands.specs.Cycled.{IsNextHeap, IsUnmarked}
+use Rattle.commands.specs.Following.{IsNextHeap, IsUnmarked}
 use Rattle.commands.proofs.cycling.mark_reached.Goals as goal
 
 pub returns-in-Ok-clause-next : goal.returns-in-Ok-clause-next

@@ -1,6 +1,6 @@
 use Rattle.std.proofs.lemmas.Result.{err_from_is_err_and}
 use Rattle.heap_layout.specs.ImageParts.{heap_in}
-use Rattle.commands.proofs.MarkRuns.{marked_heap}
+use Rattle.commands.proofs.Marked.{marked_heap}
 use Rattle.commands.proofs.mark.mark_by_roots.Goals as goal
 
 -- The heap with the reachable marks is refused.

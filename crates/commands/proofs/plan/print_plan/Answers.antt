@@ -1,35 +1,25 @@
-use Rattle.std.proofs.Common.{subst}
-use Rattle.std.proofs.lemmas.Result.{on_ok_weaker, IfErr-weaker}
+use Rattle.std.proofs.Common.{◌++◌}
+use Rattle.std.proofs.KnownBytes.{Appends-trans}
+use Rattle.std.proofs.lemmas.Result.{err_from_is_err_and}
 use Rattle.heap_layout.specs.Counted.{inner_of}
-use Rattle.heap_layout.specs.Heap.{Heap}
-use Rattle.command_io.proofs.Imaged.{at_heap}
-use Rattle.commands.specs.Plan.{IsOfPrinting, PrintsPlan}
-use Rattle.commands.proofs.FilesLeft.{none_named, still}
-use Rattle.commands.proofs.OfImages.{of_plan}
+use Rattle.heap_layout.specs.Heap.{live}
+use Rattle.commands.specs.HeapTasks.{count_lines, page_lines, root_lines}
+use Rattle.command_io.proofs.Begun.{begun_after, begun_longer, begun_then}
 use Rattle.commands.proofs.plan.print_plan.Goals as goal
 
-pub returns-clause-printed : goal.returns-clause-printed
-returns-clause-printed g c =
-    let before = g.O.Write.contents (inner_of c.args.out.now).now in
-    let after = g.O.Write.contents (inner_of c.write_plan.new.out).now in
-    on_ok_weaker c.write_plan.result
-    (λ printed. at_heap (g.F.Files.disk c.args.files.now) c.args.large c.args.path.now c.in_ok-heap.heap (PrintsPlan before after) c.in_ok-heap.ensures.heap
-    (subst (λ (heap : Heap). PrintsPlan before after heap) c.in_ok-plan.ensures printed))
-    c.write_plan.ensures.printed
+-- A beginning of the plan was printed.
+pub returns-in_err-print_counts-clause-begun : goal.returns-in_err-print_counts-clause-begun
+returns-in_err-print_counts-clause-begun g c =
+    let p = err_from_is_err_and c.from_residual.result c.from_residual.ensures.1 in
+    rw p.1 (begun_longer _ _ (count_lines (live c.args.plan.now) ++ page_lines (live c.args.plan.now)) _ (begun_longer _ _ (count_lines (live c.args.plan.now)) _ c.in_err-print_counts.ensures.begun))
 
-pub returns-clause-cause : goal.returns-clause-cause
-returns-clause-cause g c =
-    let before = g.O.Write.contents (inner_of c.args.out.now).now in
-    let after = g.O.Write.contents (inner_of c.write_plan.new.out).now in
-    IfErr-weaker c.write_plan.result _ _
-    (λ refusal h. of_plan (g.F.Files.disk c.args.files.now) c.args.large c.args.path.now c.in_ok-heap.heap c.in_ok-heap.ensures.heap before after refusal
-    (subst (λ (heap : Heap). IsOfPrinting before after heap refusal) c.in_ok-plan.ensures h))
-    c.write_plan.ensures.cause
+pub returns-in_err-print_pages-clause-begun : goal.returns-in_err-print_pages-clause-begun
+returns-in_err-print_pages-clause-begun g c =
+    let p = err_from_is_err_and c.from_residual-in_err-print_pages.result c.from_residual-in_err-print_pages.ensures.1 in
+    rw p.1 (begun_longer _ _ (count_lines (live c.args.plan.now) ++ page_lines (live c.args.plan.now)) _
+    (begun_then _ _ _ (count_lines (live c.args.plan.now)) _ c.in_ok-print_counts.ensures.printed c.in_err-print_pages.ensures.begun))
 
-pub returns-clause-left : goal.returns-clause-left
-returns-clause-left g c =
-    let before = g.O.Write.contents (inner_of c.args.out.now).now in
-    let after = g.O.Write.contents (inner_of c.write_plan.new.out).now in
-    let P = IsOfPrinting before after c.in_ok-plan.plan in
-    still (g.F.Files.disk c.args.files.now) c.args.files.now c.heap_at.new.files P (none_named P (λ _ h. h) (λ _ h. h) (λ _ h. h) (λ _ h. h) (λ h. h) (λ h. h))
-    c.write_plan.result c.in_ok-heap.ensures.left c.write_plan.ensures.cause
+pub returns-clause-begun : goal.returns-clause-begun
+returns-clause-begun g c =
+    begun_after _ _ _ (count_lines (live c.args.plan.now) ++ page_lines (live c.args.plan.now)) _ c.print_roots.result
+    (Appends-trans _ _ _ (count_lines (live c.args.plan.now)) (page_lines (live c.args.plan.now)) c.in_ok-print_counts.ensures.printed c.in_ok-print_pages.ensures.printed) c.print_roots.ensures.begun

@@ -1,11 +1,12 @@
-use Rattle.std.proofs.Common.{◌<◌, List, All, length, refl, sym, subst, ap, ◌∙◌}
+use Rattle.std.proofs.Common.{◌<◌, List, All, inl, length, refl, sym, subst, ap, ◌∙◌}
 use Rattle.comp_mutator.specs.Mutators.{setup_of}
 use Rattle.comp_mutator.specs.Lists.{Each}
 use Rattle.comp_trace.specs.Traces.{lines_of}
 use Rattle.comp_trace.specs.declared.text.line.Line.{Line}
 use Rattle.comp_trace.proofs.Callers.{all_of}
 use Rattle.comp_trace.specs.declared.races.racing.Run.{Run}
-use Rattle.commands.specs.ByLine.{AreByLine, AreOwn, HasEnded, IsLeastRefusedLine}
+use Rattle.commands.specs.TraceTasks.{AreByLine, HasEnded, IsLeastRefusedLine}
+use Rattle.commands.specs.Joining.{AreOwn}
 use Rattle.commands.proofs.Racing.{all_inside, each_own, many_runs, raced_heap, stopped_race}
 use Rattle.comp_trace.proofs.Runnings.{all_row, all_there}
 use Rattle.commands.proofs.races.race_and_finish.Goals as goal
@@ -37,8 +38,13 @@ returns-in-Some-clause-halted g c =
     let raced = c.in-Ok-race.raced in
     let shown = c.by_line-shown.result.items in
     let same = c.deref-runs.ensures.value in
-    stopped_race c.args.space (lines_of c.args.trace.now) c.args.mutators.items raced.mutators.items raced.runs.items c.requires.new c.in-Ok-race.ensures.raced c.requires.compacted
-    shown (subst (λ (runs : List Run). AreByLine runs shown) same c.by_line-shown.ensures) c.in-Some.stop (subst (λ (runs : List Run). IsLeastRefusedLine runs c.in-Some.stop) same c.in-Some.ensures)
+    inl (
+      _,
+      shown,
+      stopped_race c.args.space (lines_of c.args.trace.now) c.args.mutators.items raced.mutators.items raced.runs.items c.requires.new c.in-Ok-race.ensures.raced c.requires.compacted
+          shown (subst (λ (runs : List Run). AreByLine runs shown) same c.by_line-shown.ensures) c.in-Some.stop (subst (λ (runs : List Run). IsLeastRefusedLine runs c.in-Some.stop) same c.in-Some.ensures),
+      refl,
+    )
 
 -- All lines ran, and the heap was finished.
 pub returns-in-Ok-finish_all-clause-raced : goal.returns-in-Ok-finish_all-clause-raced

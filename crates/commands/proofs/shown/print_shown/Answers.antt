@@ -3,7 +3,7 @@ use Rattle.std.proofs.lemmas.Result.{err_from_is_err_and}
 use Rattle.comp_trace.specs.declared.steps.shown.Shown.{Shown}
 use Rattle.command_io.proofs.Begun.{begun_amid}
 use Rattle.command_io.proofs.Lines.{listed-amid}
-use Rattle.commands.specs.ReplayTask.{shown_line}
+use Rattle.commands.specs.TraceTasks.{shown_line}
 use Rattle.commands.proofs.shown.print_shown.Goals as goal
 
 -- A beginning of the lines was printed.

@@ -2,7 +2,7 @@ use Rattle.std.proofs.Common.{◌≡◌, take}
 use Rattle.std.specs.Io.KnownBytes.{Appends}
 use Rattle.std.specs.List.{flat_map}
 use Rattle.heap_layout.specs.Counted.{inner_of, failures_of, writer_of}
-use Rattle.commands.specs.ReplayTask.{shown_line}
+use Rattle.commands.specs.TraceTasks.{shown_line}
 use Rattle.commands.proofs.shown.print_shown.Given as goal
 
 -- the lines of the values so far were printed to the same writer, and no call failed
