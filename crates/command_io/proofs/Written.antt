@@ -10,7 +10,7 @@ use Rattle.heap_layout.specs.Writing.{AppendsSome}
 use Rattle.comp_dump.specs.declared.fault.DumpFault.{DumpFault}
 use Rattle.comp_dump.specs.declared.fault.DumpFault.TheVariants as dumps
 use Rattle.command_io.specs.Disk.{Disk, IsUnkept, WritesBeginning, WritesWhole}
-use Rattle.command_io.specs.Calls.{AfterCreating, IsOfCreating}
+use Rattle.command_io.specs.FileCalls.{AfterCreating, IsOfCreating}
 use Rattle.command_io.specs.KeptFiles.{FailsFlush, KeepsAll}
 use Rattle.command_io.specs.declared.refusal.Output.{Output}
 use Rattle.command_io.specs.declared.refusal.CommandRefusal.{CommandRefusal}

@@ -9,4 +9,4 @@ pub mod MadeFiles
 pub mod Memory
 pub mod Texts
 pub mod Naming
-pub mod Calls
+pub mod FileCalls

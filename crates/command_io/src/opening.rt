@@ -5,7 +5,7 @@ ghost use Rattle.heap_layout.specs.declared.counted.Counted.{Counted as ACounted
 ghost use Rattle.command_io.specs.declared.refusal.Output.{Output as AnOutput};
 ghost use Rattle.command_io.specs.Counting.{counting, more_by};
 ghost use Rattle.command_io.specs.Disk.{Disk, IsOfOpening};
-ghost use Rattle.command_io.specs.Calls.{counted_once_begun, AfterCreating, IsOfCreating, LeavesRead};
+ghost use Rattle.command_io.specs.FileCalls.{counted_once_begun, AfterCreating, IsOfCreating, LeavesRead};
 ghost use Rattle.command_io.specs.Flushing.{counted_in};
 
 use crate::flushed::Flushed;

@@ -1,6 +1,6 @@
 //! The files of dumps, of new images and of pictures. Once such a file is whole, it replaces what was at its path.
 ghost use Rattle.std.specs.Prelude.{◌≡◌, IfErr};
-ghost use Rattle.command_io.specs.Calls.{IsOfCreating};
+ghost use Rattle.command_io.specs.FileCalls.{IsOfCreating};
 ghost use Rattle.command_io.specs.declared.refusal.CommandRefusal.TheVariants as refusal;
 
 use crate::refusal::{CommandRefusal, Output};

@@ -1,7 +1,7 @@
 //! Ends the reading of a file.
 ghost use Rattle.std.specs.Prelude.{◌≡◌};
 ghost use Rattle.heap_layout.specs.Counted.{failures_of};
-ghost use Rattle.command_io.specs.Calls.{LeavesRead};
+ghost use Rattle.command_io.specs.FileCalls.{LeavesRead};
 ghost use Rattle.command_io.specs.Reading.{CountsRead};
 
 use crate::opening::Files;

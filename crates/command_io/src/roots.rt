@@ -3,7 +3,7 @@ ghost use Rattle.std.specs.Prelude.{◌≡◌, ◌-◌, ◌^◌, ◌<◌, All, O
 ghost use Rattle.heap_layout.specs.Counted.{inner_of, failures_of};
 ghost use Rattle.comp_trace.specs.RootsText.{new_roots_of, IsRootWithin};
 ghost use Rattle.command_io.specs.Disk.{RefusesFile};
-ghost use Rattle.command_io.specs.Calls.{LeavesRead};
+ghost use Rattle.command_io.specs.FileCalls.{LeavesRead};
 ghost use Rattle.command_io.specs.Texts.{AreRootsAt, RefusesRootsText, SomeText};
 ghost use Rattle.command_io.specs.Reading.{CountsRead};
 ghost use Rattle.command_io.specs.declared.refusal.Input.TheVariants as inputs;

@@ -21,7 +21,7 @@ use Rattle.stopped_heap.proofs.Once.{once}
 use Rattle.stopped_heap.proofs.Settling.{settled-all}
 use Rattle.heap_layout.proofs.Marked.{closed}
 use Rattle.stopped_heap.proofs.Rows.{marks-reached}
-use Rattle.commands.specs.Collecting.{AreLeftBy, AreSlid, IsLeftBy, IsReachedHeap}
+use Rattle.commands.specs.CollectedHeaps.{AreLeftBy, AreSlid, IsLeftBy, IsReachedHeap}
 
 -- The live words of a sound heap are no more than its words: the live objects lie apart.
 module _ (heap : Heap) (sound : IsSound heap) where

@@ -15,7 +15,7 @@ use Rattle.comp_trace.specs.declared.text.line.Line.{Line}
 use Rattle.comp_trace.specs.declared.steps.shown.Shown.{Shown}
 use Rattle.command_io.specs.declared.refusal.Output.TheVariants as outputs
 use Rattle.command_io.proofs.Makings.{same_parts}
-use Rattle.commands.specs.Answers.{halted_outcome}
+use Rattle.commands.specs.TaskAnswers.{halted_outcome}
 use Rattle.commands.specs.HeapTasks.{live_line, swept_dump, IsCompacted}
 use Rattle.commands.specs.Leftovers.{IsSweptHeap}
 use Rattle.commands.specs.Outcome.{makes}

@@ -24,7 +24,7 @@ use Rattle.comp_trace.specs.declared.races.racing.Run.{Run}
 use Rattle.comp_trace.specs.declared.steps.shown.Shown.{Shown}
 use Rattle.comp_trace.proofs.Inside.{read_inside}
 use Rattle.commands.specs.TraceTasks.{AreByLine, HasEnded, IsLeastRefusedLine, IsRacedHeap, IsStoppedRace, RanTheirLines}
-use Rattle.commands.specs.Joining.{AreOwn}
+use Rattle.commands.specs.JoinedRaces.{AreOwn}
 use Rattle.command_io.specs.Texts.{HasLines}
 use Rattle.comp_trace.proofs.Runnings.{setup_is}
 use Rattle.commands.proofs.Walking.{of_run}

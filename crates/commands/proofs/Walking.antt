@@ -20,7 +20,7 @@ use Rattle.comp_trace.specs.declared.text.line.Line.{Line}
 use Rattle.comp_trace.specs.declared.races.racing.Run.{Run}
 use Rattle.comp_trace.specs.declared.steps.shown.Shown.{Shown}
 use Rattle.commands.specs.TraceTasks.{AreByLine, HasEnded, IsLeastRefusedLine, LinesRise}
-use Rattle.commands.specs.Joining.{earlier_of, printed_at, AreOf, AreOwn, IsFirstRefusedLine}
+use Rattle.commands.specs.JoinedRaces.{earlier_of, printed_at, AreOf, AreOwn, IsFirstRefusedLine}
 
 -- ---- the walk
 

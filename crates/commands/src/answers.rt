@@ -1,6 +1,6 @@
 //! What a task comes to, before a file is made of it and its lines are printed.
 ghost use Rattle.std.specs.Prelude.{◌≡◌};
-ghost use Rattle.commands.specs.Answers.{halted_outcome, outcome_of, IsLawful};
+ghost use Rattle.commands.specs.TaskAnswers.{halted_outcome, outcome_of, IsLawful};
 
 use command_io::CommandRefusal;
 use comp_audit::AuditFault;

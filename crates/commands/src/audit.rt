@@ -3,11 +3,11 @@ ghost use Rattle.std.specs.Prelude.{◌≡◌, ◌-◌, ◌^◌, ◌<◌, IfOk, 
 ghost use Rattle.heap_layout.specs.Counted.{inner_of, failures_of};
 ghost use Rattle.comp_audit.specs.Judged.{Judges};
 ghost use Rattle.command_io.specs.Disk.{RefusesFile, SomeFile};
-ghost use Rattle.command_io.specs.Calls.{LeavesRead};
+ghost use Rattle.command_io.specs.FileCalls.{LeavesRead};
 ghost use Rattle.command_io.specs.Images.{IsHeapAt};
 ghost use Rattle.command_io.specs.Reading.{CountsRead};
 ghost use Rattle.command_io.specs.declared.refusal.Input.TheVariants as inputs;
-ghost use Rattle.commands.specs.Answers.{IsAnswered, IsComing};
+ghost use Rattle.commands.specs.TaskAnswers.{IsAnswered, IsComing};
 ghost use Rattle.commands.specs.HeapTasks.{faults_by, IsAudited};
 ghost use Rattle.commands.specs.Inputs.{IsDumpIn, RefusesAuditAt, RefusesDump, SomeAudit};
 

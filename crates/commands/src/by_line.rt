@@ -1,7 +1,7 @@
 //! Joins the runs of a race: their values in the order of the lines, and the least refused line.
 ghost use Rattle.std.specs.Prelude.{◌≡◌, ◌<◌, ◌≤◌, [], All, drop, length, vec_capacity, IfSome};
 ghost use Rattle.commands.specs.TraceTasks.{AreByLine};
-ghost use Rattle.commands.specs.Joining.{earlier_of, printed_at, AreOwn, IsFirstRefusedLine};
+ghost use Rattle.commands.specs.JoinedRaces.{earlier_of, printed_at, AreOwn, IsFirstRefusedLine};
 
 use comp_trace::{Line, RefusedLine, Run, Shown};
 

@@ -7,8 +7,8 @@ ghost use Rattle.command_io.specs.Disk.{RefusesFile};
 ghost use Rattle.command_io.specs.Images.{RefusesImageParts, SomePartsAt};
 ghost use Rattle.command_io.specs.declared.refusal.Input.TheVariants as inputs;
 ghost use Rattle.command_io.specs.declared.refusal.CommandRefusal.TheVariants as refusals;
-ghost use Rattle.commands.specs.Answers.{IsAnswered, IsComing};
-ghost use Rattle.commands.specs.Collecting.{AreLeftBy, AreSlid, IsLeftBy, IsReachedHeap};
+ghost use Rattle.commands.specs.TaskAnswers.{IsAnswered, IsComing};
+ghost use Rattle.commands.specs.CollectedHeaps.{AreLeftBy, AreSlid, IsLeftBy, IsReachedHeap};
 ghost use Rattle.commands.specs.HeapTasks.{IsCollected, IsCollectedHeap, IsUncollectable};
 
 use crate::answers::Answer;

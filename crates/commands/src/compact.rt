@@ -6,7 +6,7 @@ ghost use Rattle.comp_mutator.specs.CellViews.{steps_of, AreNew};
 ghost use Rattle.comp_mutator.specs.Finishes.{IsOfFlip};
 ghost use Rattle.comp_mutator.specs.Mutators.{cells_of, pass_of, setup_of, AreMutatorsOf};
 ghost use Rattle.command_io.specs.Images.{SomeHeapAt};
-ghost use Rattle.commands.specs.Answers.{IsAnswered, IsComing};
+ghost use Rattle.commands.specs.TaskAnswers.{IsAnswered, IsComing};
 ghost use Rattle.commands.specs.HeapTasks.{IsCompacted, IsOfSweeping};
 ghost use Rattle.commands.specs.Inputs.{RefusesHeapAt};
 ghost use Rattle.commands.specs.Leftovers.{IsSweptHeap};

@@ -6,7 +6,7 @@ ghost use Rattle.comp_trace.specs.Markings.{marks_given};
 ghost use Rattle.comp_trace.specs.Replays.{Hold};
 ghost use Rattle.comp_trace.specs.RootsNamed.{words_named};
 ghost use Rattle.comp_trace.specs.Traces.{lines_of};
-ghost use Rattle.commands.specs.Answers.{IsComing};
+ghost use Rattle.commands.specs.TaskAnswers.{IsComing};
 ghost use Rattle.commands.specs.TraceTasks.{IsFollowed};
 ghost use Rattle.commands.specs.Following.{given_by, IsGivenWithin, IsNextHeap, IsUnmarked};
 

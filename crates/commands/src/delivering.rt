@@ -5,8 +5,8 @@ ghost use Rattle.heap_layout.specs.Counted.{inner_of, failures_of, is_flushed_of
 ghost use Rattle.heap_layout.specs.Writing.{AppendsSome};
 ghost use Rattle.command_io.specs.Printing.{CountsPrint, LeavesFlushed};
 ghost use Rattle.command_io.specs.declared.refusal.CommandRefusal.TheVariants as refusals;
-ghost use Rattle.commands.specs.Answers.{outcome_of, IsLawful};
-ghost use Rattle.commands.specs.Making.{IsUnkept};
+ghost use Rattle.commands.specs.TaskAnswers.{outcome_of, IsLawful};
+ghost use Rattle.commands.specs.UnkeptFiles.{IsUnkept};
 ghost use Rattle.commands.specs.Outcome.{IsDelivered, IsKept, IsUndelivered};
 
 use crate::answers::Answer;

@@ -1,6 +1,6 @@
 //! What is said by `audit --explain`: how much the dump has, and what is wrong where, or that nothing is.
 ghost use Rattle.std.specs.Prelude.{true, IfOk, Some};
-ghost use Rattle.commands.specs.Answers.{IsComing};
+ghost use Rattle.commands.specs.TaskAnswers.{IsComing};
 ghost use Rattle.commands.specs.HeapTasks.{IsAudited};
 ghost use Rattle.commands.specs.Compared.{compared_lines, found_lines, IsFound};
 

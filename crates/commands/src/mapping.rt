@@ -3,7 +3,7 @@ ghost use Rattle.std.specs.Prelude.{◌≡◌, false, IfOk, option_map};
 ghost use Rattle.std.specs.String.{string_bytes};
 ghost use Rattle.comp_audit.specs.Judged.{faults, Judges};
 ghost use Rattle.heap_map.specs.Pictures.{IsWhole};
-ghost use Rattle.commands.specs.Answers.{IsAnswered, IsComing};
+ghost use Rattle.commands.specs.TaskAnswers.{IsAnswered, IsComing};
 ghost use Rattle.commands.specs.Compared.{verdict_of};
 ghost use Rattle.commands.specs.Inputs.{RefusesMapAt, SomeMap};
 ghost use Rattle.commands.specs.HeapTasks.{IsMapped};

@@ -4,7 +4,7 @@ ghost use Rattle.heap_layout.specs.ImageParts.{heap_in};
 ghost use Rattle.command_io.specs.Disk.{RefusesFile};
 ghost use Rattle.command_io.specs.Images.{RefusesImageParts, SomePartsAt};
 ghost use Rattle.command_io.specs.declared.refusal.Input.TheVariants as inputs;
-ghost use Rattle.commands.specs.Answers.{IsAnswered, IsComing};
+ghost use Rattle.commands.specs.TaskAnswers.{IsAnswered, IsComing};
 ghost use Rattle.commands.specs.HeapTasks.{IsMarked, IsMarkedHeap, IsUnmarkable};
 
 use crate::answers::Answer;

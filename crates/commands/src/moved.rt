@@ -6,12 +6,12 @@ ghost use Rattle.heap_layout.specs.Writing.{AppendsSome};
 ghost use Rattle.moved_heaps.specs.Moved.{Moved as AMoved};
 ghost use Rattle.command_io.specs.Images.{SomeHeapAt};
 ghost use Rattle.command_io.specs.Disk.{RefusesFile, SomeFile};
-ghost use Rattle.command_io.specs.Calls.{LeavesRead};
+ghost use Rattle.command_io.specs.FileCalls.{LeavesRead};
 ghost use Rattle.command_io.specs.Printing.{CountsPrint};
 ghost use Rattle.command_io.specs.Reading.{CountsRead};
 ghost use Rattle.command_io.specs.declared.refusal.Input.TheVariants as inputs;
 ghost use Rattle.command_io.specs.declared.refusal.CommandRefusal.TheVariants as refusals;
-ghost use Rattle.commands.specs.Answers.{IsAnswered, IsComing};
+ghost use Rattle.commands.specs.TaskAnswers.{IsAnswered, IsComing};
 ghost use Rattle.commands.specs.Inputs.{IsMovedIn, RefusesBytes, RefusesThen};
 ghost use Rattle.commands.specs.HeapTasks.{moves_lines, refusal_of, IsJudged};
 

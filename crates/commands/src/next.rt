@@ -1,7 +1,7 @@
 //! The command `next`.
 ghost use Rattle.std.specs.Prelude.{◌≤◌, IfErr, IfOk};
-ghost use Rattle.command_io.specs.Calls.{LeavesRead};
-ghost use Rattle.commands.specs.Answers.{IsAnswered};
+ghost use Rattle.command_io.specs.FileCalls.{LeavesRead};
+ghost use Rattle.commands.specs.TaskAnswers.{IsAnswered};
 ghost use Rattle.commands.specs.TraceTasks.{IsFollowed};
 ghost use Rattle.commands.specs.Following.{given_by, IsGivenWithin};
 ghost use Rattle.commands.specs.Inputs.{IsGivenAt, RefusesCycleAt, RefusesGivenAt, SomeCycle};

@@ -3,7 +3,7 @@ ghost use Rattle.std.specs.Prelude.{◌≡◌, ◌-◌, ◌^◌, ◌<◌, true, 
 ghost use Rattle.heap_layout.specs.Counted.{inner_of, failures_of, is_flushed_of, writer_of};
 ghost use Rattle.command_line.specs.AskedTasks.{HasLawfulCounts};
 ghost use Rattle.command_io.specs.Printing.{CountsPrint, LeavesFlushed};
-ghost use Rattle.commands.specs.Answers.{IsAnswered};
+ghost use Rattle.commands.specs.TaskAnswers.{IsAnswered};
 ghost use Rattle.commands.specs.Tasks.{path_of, DoesTask, IsOutcomeOf, RefusesInputs, RefusesTask};
 
 use crate::answers::Answer;

@@ -6,7 +6,7 @@ ghost use Rattle.heap_layout.specs.Heap.{live};
 ghost use Rattle.heap_layout.specs.Writing.{AppendsSome};
 ghost use Rattle.command_io.specs.Images.{SomeHeapAt};
 ghost use Rattle.command_io.specs.Printing.{CountsPrint};
-ghost use Rattle.commands.specs.Answers.{IsAnswered, IsComing};
+ghost use Rattle.commands.specs.TaskAnswers.{IsAnswered, IsComing};
 ghost use Rattle.commands.specs.Inputs.{RefusesHeapAt};
 ghost use Rattle.commands.specs.HeapTasks.{count_lines, page_lines, root_lines, IsPlanned};
 

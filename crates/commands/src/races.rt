@@ -8,7 +8,7 @@ ghost use Rattle.comp_mutator.specs.Mutators.{cells_of, pass_of, setup_of, AreMu
 ghost use Rattle.comp_trace.specs.TraceLines.{IsParsedFor};
 ghost use Rattle.comp_trace.specs.Traces.{lines_of, mutators_of, roots_of};
 ghost use Rattle.command_io.specs.Texts.{HasLines};
-ghost use Rattle.commands.specs.Answers.{halted_outcome, outcome_of, IsAnswered, IsLawful};
+ghost use Rattle.commands.specs.TaskAnswers.{halted_outcome, outcome_of, IsAnswered, IsLawful};
 ghost use Rattle.commands.specs.Inputs.{RefusesTraceAt, SomeTrace};
 ghost use Rattle.commands.specs.TraceTasks.{InterruptsRace, IsHaltedRun, IsRaced, IsRacedHeap};
 

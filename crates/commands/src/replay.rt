@@ -1,10 +1,10 @@
 //! The command `replay`, and what all commands that run a trace read.
 ghost use Rattle.std.specs.Prelude.{◌≡◌, ◌≤◌, length, IfErr, IfOk};
 ghost use Rattle.comp_trace.specs.Traces.{lines_of, mutators_of, roots_of};
-ghost use Rattle.command_io.specs.Calls.{LeavesRead};
+ghost use Rattle.command_io.specs.FileCalls.{LeavesRead};
 ghost use Rattle.command_io.specs.Images.{IsHeapAt};
 ghost use Rattle.command_io.specs.Texts.{HasLinesAt};
-ghost use Rattle.commands.specs.Answers.{outcome_of, IsAnswered, IsLawful};
+ghost use Rattle.commands.specs.TaskAnswers.{outcome_of, IsAnswered, IsLawful};
 ghost use Rattle.commands.specs.Inputs.{RefusesTraceAt, SomeTrace};
 ghost use Rattle.commands.specs.TraceTasks.{IsReplayed};
 

@@ -1,7 +1,7 @@
 //! The command `word`.
 ghost use Rattle.std.specs.Prelude.{◌≡◌};
 ghost use Rattle.command_io.specs.Images.{SomeHeapAt};
-ghost use Rattle.commands.specs.Answers.{IsAnswered, IsComing};
+ghost use Rattle.commands.specs.TaskAnswers.{IsAnswered, IsComing};
 ghost use Rattle.commands.specs.Inputs.{RefusesHeapAt};
 ghost use Rattle.commands.specs.HeapTasks.{IsWordOf};
 

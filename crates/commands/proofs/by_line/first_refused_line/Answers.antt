@@ -1,7 +1,7 @@
 use Rattle.std.proofs.Common.{subst, sym, take, arith, ◌+◌, ◌≤◌, List, length}
 use Rattle.std.proofs.lemmas.List.{take_all}
 use Rattle.comp_trace.specs.declared.races.racing.Run.{Run}
-use Rattle.commands.specs.Joining.{IsFirstRefusedLine}
+use Rattle.commands.specs.JoinedRaces.{IsFirstRefusedLine}
 use Rattle.commands.proofs.Walking.{first_on}
 use Rattle.commands.proofs.by_line.first_refused_line.Goals as goal
 

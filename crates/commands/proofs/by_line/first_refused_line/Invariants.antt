@@ -1,5 +1,5 @@
 use Rattle.std.proofs.Common.{take}
-use Rattle.commands.specs.Joining.{IsFirstRefusedLine}
+use Rattle.commands.specs.JoinedRaces.{IsFirstRefusedLine}
 use Rattle.commands.proofs.by_line.first_refused_line.Given as goal
 
 abbrev pub invariant-loop-run : goal.invariant-loop-run

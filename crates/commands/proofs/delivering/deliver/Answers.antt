@@ -2,7 +2,7 @@ use Rattle.std.proofs.Common.{◌≡◌}
 use Rattle.std.proofs.lemmas.Result.{err_from_is_err_and}
 use Rattle.heap_layout.specs.Counted.{inner_of, failures_of}
 use Rattle.command_io.specs.declared.refusal.CommandRefusal.TheVariants.{CannotPrint}
-use Rattle.commands.specs.Answers.{outcome_of}
+use Rattle.commands.specs.TaskAnswers.{outcome_of}
 use Rattle.commands.proofs.Answered.{unflushed_outcome}
 use Rattle.commands.proofs.delivering.deliver.Goals as goal
 

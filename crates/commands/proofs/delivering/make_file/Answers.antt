@@ -1,7 +1,7 @@
 use Rattle.std.proofs.Common.{IfErr, OnOk, refl, subst, sym}
 use Rattle.std.proofs.lemmas.Result.{IfErr-weaker}
-use Rattle.commands.specs.Answers.{outcome_of}
-use Rattle.commands.specs.Making.{IsUnkept}
+use Rattle.commands.specs.TaskAnswers.{outcome_of}
+use Rattle.commands.specs.UnkeptFiles.{IsUnkept}
 use Rattle.commands.specs.Outcome.{IsKept}
 use Rattle.commands.specs.declared.answers.Answer.{Answer}
 use Rattle.commands.proofs.delivering.make_file.Goals as goal

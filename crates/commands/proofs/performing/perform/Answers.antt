@@ -1,7 +1,7 @@
 use Rattle.std.proofs.Common.{subst, sym}
 use Rattle.std.proofs.lemmas.Result.{err_from_is_err_and}
 use Rattle.heap_layout.specs.Counted.{inner_of, failures_of}
-use Rattle.commands.specs.Answers.{outcome_of}
+use Rattle.commands.specs.TaskAnswers.{outcome_of}
 use Rattle.commands.specs.Tasks.{IsOutcomeOf}
 use Rattle.commands.proofs.Answered.{unanswered}
 use Rattle.commands.proofs.Unprinted.{counted, counted_result}

@@ -6,7 +6,7 @@ use Rattle.comp_trace.specs.declared.text.line.Line.{Line}
 use Rattle.comp_trace.proofs.Callers.{all_of}
 use Rattle.comp_trace.specs.declared.races.racing.Run.{Run}
 use Rattle.commands.specs.TraceTasks.{AreByLine, HasEnded, IsLeastRefusedLine}
-use Rattle.commands.specs.Joining.{AreOwn}
+use Rattle.commands.specs.JoinedRaces.{AreOwn}
 use Rattle.commands.proofs.Racing.{all_inside, each_own, many_runs, raced_heap, stopped_race}
 use Rattle.comp_trace.proofs.Runnings.{all_row, all_there}
 use Rattle.commands.proofs.races.race_and_finish.Goals as goal
