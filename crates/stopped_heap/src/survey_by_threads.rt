@@ -19,7 +19,7 @@ const LONG: usize = 65_536;
 const WIDE: usize = 8_192;
 
 // Objects that lie so many words from the one before, or fewer, are near: one thread follows them as fast.
-const NEAR: usize = 64;
+const NEAR: usize = 512;
 
 impl<'w> Survey<'w> {
     /// Like `of`, in at most so many threads, the caller among them, and 64 at most; the survey is the same, and a
@@ -27,7 +27,7 @@ impl<'w> Survey<'w> {
     /// Threads are started while 8,192 objects or more wait to be looked at, and for 98,304 references or more of one
     /// object: it gains where that is often so, as in trees, graphs and tables, and the objects lie far apart. The
     /// caller surveys alone where so many never wait, as in a list, once it followed as many objects as a 64th of the
-    /// words; and where most of the first that wait lie within 64 words of the one before, as in arrays whose objects
+    /// words; and where most of the first that wait lie within 512 words of the one before, as in arrays whose objects
     /// were made in order.
     ///
     /// While threads are at work each has a list of four bytes for each reference that leads to an object that was not
