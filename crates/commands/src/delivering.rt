@@ -24,7 +24,8 @@ use std::alloc::Global;
 use std::io::Write;
 
 /// Makes the file of an answer, and keeps it at a path; then prints its lines, and flushes the output. If the answer is
-/// a refusal, that is the answer then. Requires an answer whose counts are those of its heap's flip. Fewer than `u64::MAX` calls of the output must have failed before.
+/// a refusal, that is the answer then. Requires an answer whose counts are those of its heap's flip. Fewer than
+/// `u64::MAX` calls of the output must have failed before.
 pub fn deliver<F: Files, O: Write>(
     alloc: Global,
     files: &mut F,

@@ -21,8 +21,8 @@ use std::alloc::Global;
 impl Member {
     /// Makes an object of `refs` null references, `weak` null weak words and `data_words` zero data words, in this
     /// order, and answers its address. The object follows the others on the lowest of the member's own fresh pages that
-    /// has room. Weak words in edition one, a tag of 2^16 or more in edition two, and one of 2^14 or more in edition
-    /// three are refused before anything else (`NotInEdition`); then nothing is built or seen.
+    /// has room. Weak words in edition one, a tag of 2^16 or more in edition two, and one of 2^14 or more in editions
+    /// three and four are refused before anything else (`NotInEdition`); then nothing is built or seen.
     #[inline(always)]
     pub fn try_alloc_weak(
         &mut self,

@@ -1,6 +1,6 @@
 -- The bytes of a dump. All numbers are little-endian; nothing is padded.
 --     magic        8 bytes, `COMPDUMP`
---     version      4 bytes: 1 in edition one, 2 in edition two, 3 in edition three
+--     version      4 bytes: 1 in edition one, 2 in edition two, 3 in edition three, 4 in edition four
 --     counts       4 bytes each: mutators, fresh pages, all pages, roots
 --     roots        8 bytes each
 --     pages        1 byte for a page that was never built: 0. Else

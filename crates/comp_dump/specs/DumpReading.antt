@@ -147,7 +147,7 @@ abbrev pub whole : {A : Type 0} → Result (A × List ℕ) DumpFault → Result 
 whole (Ok x) = ended x.0 x.1
 whole (Err fault) = Err fault
 
--- all bytes, read as a dump, of edition three only if `large`
+-- all bytes, read as a dump, of edition three or four only if `large`
 abbrev pub read_whole_by : Bool → List ℕ → Result Dumped DumpFault
 read_whole_by large bytes = whole (dump large bytes)
 

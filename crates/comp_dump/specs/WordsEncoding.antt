@@ -1,7 +1,7 @@
 -- The words and roots that a collector left which stops the world, so that it has neither pages nor journals. All
 -- numbers are little-endian; nothing is padded.
 --     magic    8 bytes, `COMPWORD`
---     version  4 bytes: 1 in edition one, 2 in edition two, 3 in edition three
+--     version  4 bytes: 1 in edition one, 2 in edition two, 3 in edition three, 4 in edition four
 --     counts   4 bytes each: words, roots
 --     roots    8 bytes each
 --     words    8 bytes each, from the first word of to-space on

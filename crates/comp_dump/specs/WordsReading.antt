@@ -6,7 +6,7 @@ use Rattle.comp_dump.specs.DumpReading.{Reading, done, edition, expected, number
 use Rattle.comp_dump.specs.WordsEncoding.{WordsFile, dump_of_words, words_magic}
 use Rattle.comp_dump.specs.declared.fault.DumpFault.{DumpFault}
 
--- a file, of edition three only if `large`, and the bytes after it
+-- a file, of edition three or four only if `large`, and the bytes after it
 unfoldable pub words_file : Bool → Reading WordsFile
 words_file large = do
   magic_bytes ← expected words_magic
@@ -23,6 +23,6 @@ words_dump large = do
   file ← words_file large
   done (dump_of_words file)
 
--- all bytes, read as a file of words and roots, of edition three only if `large`
+-- all bytes, read as a file of words and roots, of edition three or four only if `large`
 abbrev pub read_whole_words : Bool → List ℕ → Result Dumped DumpFault
 read_whole_words large bytes = whole (words_dump large bytes)

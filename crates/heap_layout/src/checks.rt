@@ -133,6 +133,8 @@ fn check_objects(
     if met == marks.len() {
         return Ok(());
     }
+    // A mark that was not met has a fault, and `check_marks` finds it. No clause of `check_row` says so, and what
+    // follows keeps the promise without it.
     check_marks(edition, words, marks)?;
     put_marks(bits, marks);
     Ok(())

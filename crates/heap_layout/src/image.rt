@@ -147,7 +147,7 @@ fn read_part<R: Read>(r: &mut Counted<R>, buf: &mut [u8]) -> Result<(), LayoutFa
     }
 }
 
-// Reads the magic and the version, and answers the edition of that version: three only if `large`.
+// Reads the magic and the version, and answers the edition of that version: three or four only if `large`.
 fn read_magic<R: Read>(r: &mut Counted<R>, large: bool) -> Result<Edition, LayoutFault>
     requires { failures_of r.old < 2 ^ 64 - 1 }
     ensures read { IfOk result (λ edition. Consumes (R.remaining (inner_of r.old)) (R.remaining (inner_of r.new)) (preamble edition)) }

@@ -1,6 +1,6 @@
 -- The bytes of a moved heap. All numbers are little-endian; nothing is padded.
 --     magic        8 bytes, `COMPMOVE`
---     version      4 bytes: 1 in edition one, 2 in edition two, 3 in edition three
+--     version      4 bytes: 1 in edition one, 2 in edition two, 3 in edition three, 4 in edition four
 --     counts       4 bytes each: places, roots, words
 --     places       4 bytes each
 --     roots        8 bytes each
@@ -26,7 +26,7 @@ moved_bytes moved =
     head moved.edition (length moved.places) (length moved.roots) (length moved.words) ++ (flat_map four_bytes moved.places ++ (flat_map eight_bytes moved.roots ++ flat_map eight_bytes moved.words))
 
 -- The numbers of places, roots and words that a file of this edition may have: no more places and roots than a heap may
--- have marks and roots, and as many words as to-space has at most in edition three, whatever the edition.
+-- have marks and roots, and as many words as to-space has at most in editions three and four, whatever the edition.
 pub record AreCounts (edition : Edition) (places roots words : ℕ) : Type 0 where
   pub few_places : places ≤ most_words edition
   pub few_roots : roots ≤ most_roots edition

@@ -38,6 +38,6 @@ moved large = do
   words ← times_read counts.words word
   done (record { edition = counts.edition; places = places; roots = roots; words = words })
 
--- all bytes, read as a moved heap, of edition three only if `large`
+-- all bytes, read as a moved heap, of edition three or four only if `large`
 abbrev pub read_whole : Bool → List ℕ → Result Moved DumpFault
 read_whole large bytes = whole (moved large bytes)

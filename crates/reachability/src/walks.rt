@@ -142,6 +142,7 @@ fn join(
     ensures { IfOk result (λ end. IfSome end (IsRowOf edition words.now row.new.items)) }
 {
     let base = part.base;
+    // The parts come in a row, as `part_at` makes them. No clause of it says so, and the bits rest on it.
     if row.len() > MOST || base != 64 * row.len() {
         return Ok(None);
     }
@@ -222,6 +223,7 @@ fn row_by_threads<R: Threads + Sync>(
         };
         entry = end;
     }
+    // The last part ends with the words: the same holds of this.
     if entry < words.len() || row.len() > MOST {
         return Ok(None);
     }
@@ -242,7 +244,7 @@ fn row_alone(alloc: Global, edition: Edition, words: &[u64]) -> Result<Vec<u64>,
 }
 
 /// The bits of the first words of the objects of the row, in so many threads if it is long, but in none for fewer than
-/// 65,536 words. If a thread has no memory for its part, or meets a fault, one thread walks alone. Err with the first
+/// 524,288 words. If a thread has no memory for its part, or meets a fault, one thread walks alone. Err with the first
 /// fault of the objects in turn, or with `OutOfMemory`.
 pub(crate) fn row_of<R: Threads + Sync>(
     alloc: Global,

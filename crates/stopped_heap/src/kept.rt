@@ -148,6 +148,7 @@ pub(crate) fn are_all_kept<R: Threads + Sync>(
     };
     let mut next = 0;
     for part in &parts {
+        // The parts come in a row, as `asked_at` makes them. No clause of it says so, and the answer rests on it.
         if !part.kept || part.first != next {
             return false;
         }

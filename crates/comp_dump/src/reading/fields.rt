@@ -97,7 +97,7 @@ pub fn expect<R: Read>(r: &mut Counted<R>, wanted: &[u8]) -> Result<(), DumpFaul
     Ok(())
 }
 
-/// Reads the version, and answers its edition: three only if `large`.
+/// Reads the version, and answers its edition: three or four only if `large`.
 pub fn read_edition<R: Read>(r: &mut Counted<R>, large: bool) -> Result<Edition, DumpFault>
     requires { failures_of r.old < 2 ^ 64 - 1 }
     ensures read { IfOk result (λ edition. Consumes (R.remaining (inner_of r.old)) (R.remaining (inner_of r.new)) (four_bytes (version_of edition))) }
