@@ -91,9 +91,12 @@ static int is_surveyed_by_marks(size_t roots) {
     compressor_answer a;
     TWICE(a, compressor_survey_by_marks(EDITION, heap_space.words, heap_space.used, heap.roots, roots,
                                         marking_marks(), blocks, &heap.survey));
-    heap.live = a.value;
-    heap.by_marks += a.status == COMPRESSOR_DONE;
-    if (a.status == COMPRESSOR_DONE || a.status == COMPRESSOR_OUT_OF_MEMORY) return a.status == COMPRESSOR_DONE;
+    if (a.status == COMPRESSOR_DONE) {
+        heap.live = a.value;
+        heap.by_marks++;
+        return 1;
+    }
+    if (a.status == COMPRESSOR_OUT_OF_MEMORY) return 0;
     heap.refusals[a.status % STATUSES]++;
     if (*heap.refusal == 0) tell_refusal(a);
     return 0;
@@ -104,11 +107,12 @@ static int is_surveyed_by_roots(size_t roots) {
     compressor_answer a;
     TWICE(a, compressor_survey_by_roots_lent(&heap.tables, EDITION, heap_space.words, heap_space.used, heap.roots,
                                              roots, &heap.survey));
-    if (a.status != COMPRESSOR_DONE && a.status != COMPRESSOR_OUT_OF_MEMORY) broken("by roots", a);
+    if (a.status == COMPRESSOR_OUT_OF_MEMORY) return 0;
+    if (a.status != COMPRESSOR_DONE) broken("by roots", a);
     heap.live = a.value;
-    heap.has_tables = a.status == COMPRESSOR_DONE;
-    heap.by_roots += a.status == COMPRESSOR_DONE;
-    return a.status == COMPRESSOR_DONE;
+    heap.has_tables = 1;
+    heap.by_roots++;
+    return 1;
 }
 
 /* The survey goes, and so do shares. */

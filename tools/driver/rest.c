@@ -20,12 +20,13 @@ typedef struct rest {
 /* The runtime goes on: it writes, and makes objects, by the layer of compressor_rest.h. */
 static void go_on(rest *r) {
     graph *g = r->g;
-    compressor_space space;
+    compressor_space space = {0};
     compressor_buffer buffer = {0, 0};
     const uint64_t room = r->count + below(600);
     r->words = (uint64_t *)realloc(r->words, (room + 1) * sizeof *r->words);
     IS(r->words != NULL);
     compressor_space_in(&space, g->edition, r->words, room, r->count);
+    if (one_in(2)) compressor_space_limit(&space, r->count, below(4));
     for (uint64_t i = below(60); i > 0; i--) {
         const compressor_shape shape = any_shape(g->edition, 100);
         object *o = graph_add(g, shape);

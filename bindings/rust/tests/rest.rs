@@ -1,6 +1,7 @@
 //! Heaps at rest: lists survive, garbage goes, and values are forwarded.
 
-use std::sync::RwLock;
+use std::array;
+use std::sync::{Mutex, RwLock};
 use std::thread;
 
 use compressor::rest::{Buffer, Help, Job, Space, Survey, Tables, CHUNK};
@@ -322,6 +323,169 @@ fn a_value_of_before_a_turn_leads_nowhere() {
     let forgotten = roots[0];
     space.turn(&mut roots).unwrap();
     space.load(forgotten, 0);
+}
+
+/// What a thread has of a heap that is filled: the list of what it keeps, and how many objects that are.
+struct Filling {
+    buffer: Buffer,
+    list: Value,
+    kept: u64,
+    made: u64,
+}
+
+impl Filling {
+    fn new() -> Filling {
+        Filling { buffer: Buffer::default(), list: Value::NULL, kept: 0, made: 0 }
+    }
+
+    /// Makes objects of 3 to 9 words, of so many words together, and keeps one of so many.
+    fn step(&mut self, space: &Space, words: u64, kept_each: u64) {
+        let mut left = words;
+        while left > 0 {
+            let size = if left < 12 { left } else { 3 + self.made % 7 };
+            let shape = Shape { refs: 1, data: size as u32 - 2, ..Shape::default() };
+            let made = space.alloc(&mut self.buffer, shape.header(Edition::Four).unwrap());
+            let made = made.expect("room, for the heap is not full");
+            if self.made % kept_each == 0 {
+                space.store(made, 0, self.list);
+                space.store_word(made, u64::from(shape.data), self.kept);
+                self.list = made;
+                self.kept += 1;
+            }
+            self.made += 1;
+            left -= size;
+        }
+    }
+
+    fn check(&self, space: &Space) {
+        let (mut at, mut left) = (self.list, self.kept);
+        while at.is_reference() {
+            left -= 1;
+            assert_eq!(space.load_word(at, u64::from(space.shape(at).data)), left);
+            at = space.load(at, 0);
+        }
+        assert_eq!(left, 0);
+    }
+}
+
+/// Sets the limit, above which there is room for so many words. `None` if the heap is full.
+fn limit_with(space: &mut Space, live: u64, factor: u64, need: u64) -> Option<u64> {
+    let left = space.limit_by(live, factor);
+    let limit = space.limit().min(space.room() - need);
+    space.set_limit(limit);
+    left.filter(|_| live < limit)
+}
+
+/// Each makes a whole step after the last one has looked whether it is due: the worst that threads can do.
+#[test]
+fn no_room_is_missing_before_a_heap_is_full() {
+    for (room, step) in [(64, 3), (100, 3), (256, 3), (1000, 15), (4096, 64), (65536, 1000)] {
+        for (buffers, factor) in [(1, 1), (1, 2), (4, 1), (4, 2)] {
+            let mut space = Space::new(Edition::Four, vec![0; room].into(), 0);
+            let mut all: Vec<_> = (0..buffers).map(|_| Filling::new()).collect();
+            let (need, room) = (buffers * step, room as u64);
+            let mut left = limit_with(&mut space, 0, factor, need);
+            let (mut most, mut collections) = (0, 0);
+            while left.is_some() {
+                all.iter_mut().for_each(|it| it.step(&space, step, factor));
+                if !space.is_due() {
+                    continue;
+                }
+                let mut roots: Vec<_> = all.iter().map(|it| it.list).collect();
+                let live = space.collect(&mut roots).unwrap();
+                all.iter_mut().zip(roots).for_each(|(it, root)| it.list = root);
+                left = limit_with(&mut space, live, factor, need);
+                most = if left.is_some() { live } else { most };
+                collections += 1;
+            }
+            all.iter().for_each(|it| it.check(&space));
+            // There are more where buffers take all that is left, and do not use it.
+            assert!(collections <= 24, "{collections}, in {room} words");
+            if 4 * step <= room / 16 {
+                assert!(most > room / 4 * 3, "{most} of {room}");
+            } else {
+                assert!(most > room / 16 * 7, "{most} of {room}");
+            }
+        }
+    }
+}
+
+#[test]
+fn threads_fill_a_space() {
+    const STEP: u64 = 1024;
+    const NEED: u64 = STEP * THREADS as u64;
+    let mut space = Space::new(Edition::Four, vec![0; 16 * NEED as usize].into(), 0);
+    let left = limit_with(&mut space, 0, 1, NEED);
+    let lists: [Mutex<Filling>; THREADS] = array::from_fn(|_| Mutex::new(Filling::new()));
+    let world = RwLock::new((space, left, lists));
+    let work = |k: usize| loop {
+        let running = world.read().unwrap();
+        let (space, left, lists) = &*running;
+        if left.is_none() {
+            break;
+        }
+        lists[k].lock().unwrap().step(space, STEP, 2);
+        let is_due = space.is_due();
+        drop(running);
+        if !is_due {
+            continue;
+        }
+        let (space, left, lists) = &mut *world.write().unwrap();
+        if space.is_due() && left.is_some() {
+            let mut roots = lists.each_mut().map(|it| it.get_mut().unwrap().list);
+            let live = space.collect(&mut roots).unwrap();
+            for (it, root) in lists.iter_mut().zip(roots) {
+                it.get_mut().unwrap().list = root;
+            }
+            *left = limit_with(space, live, 1, NEED);
+        }
+    };
+    thread::scope(|scope| {
+        for k in 0..THREADS {
+            scope.spawn(move || work(k));
+        }
+    });
+    let (space, left, lists) = &*world.read().unwrap();
+    assert!(left.is_none() && space.used() >= 15 * NEED);
+    lists.iter().for_each(|it| it.lock().unwrap().check(space));
+}
+
+#[test]
+fn limits_are_below_the_room_for_any_numbers() {
+    for room in [0, 1, 2, 7, 15, 16, 17, 64, 1000, 4095] {
+        let mut space = Space::new(Edition::Four, vec![0; room].into(), 0);
+        let room = room as u64;
+        let most = room - room.div_ceil(16);
+        let ends = (0..3).flat_map(|k| [room + k, u64::MAX - k]);
+        for live in (0..=room).chain(ends) {
+            for factor in [0, 1, 2, 3, 7, (1 << 63) + 1, u64::MAX] {
+                let more = space.limit_by(live, factor);
+                assert_eq!(more.is_none(), live >= most);
+                let Some(more) = more else {
+                    assert_eq!(space.limit(), most);
+                    continue;
+                };
+                let asked = u128::from(live) * u128::from(factor.max(1) - 1);
+                let wanted = asked.max(u128::from(room.div_ceil(8)));
+                assert_eq!(u128::from(more), wanted.min(u128::from(most - live)));
+                assert_eq!(space.limit(), live + more);
+            }
+        }
+    }
+}
+
+#[test]
+fn a_limit_stays_over_collections() {
+    let (mut space, mut other) = (space(), Space::new(Edition::Four, vec![0; 50].into(), 0));
+    assert_eq!(space.limit(), ROOM as u64);
+    space.set_limit(70);
+    assert_eq!(space.collect(&mut []), Ok(0));
+    assert_eq!(space.limit(), 70);
+    assert_eq!(space.collect_into(&mut other, &mut []), Ok(0));
+    assert_eq!((space.limit(), other.limit()), (50, ROOM as u64));
+    space.set_limit(0);
+    space.reset(0);
+    assert_eq!(space.limit(), 50);
 }
 
 /// Threads make lists and show them to each other; who finds that it is time stops the world and collects.

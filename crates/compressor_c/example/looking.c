@@ -334,8 +334,8 @@ static size_t audits(compressor_plan *plan, compressor_end *end, uint64_t live) 
     uint8_t nothing[1] = {0xee};
     compressor_answer told = compressor_end_write(end, nothing, 0);
     if (told.status == COMPRESSOR_OUT_OF_MEMORY) told = compressor_end_write(end, nothing, 0);
+    answered(told, COMPRESSOR_TOO_SHORT, told.value, __LINE__);
     uint64_t size = told.value;
-    answered(told, COMPRESSOR_TOO_SHORT, size, __LINE__);
     uint8_t *bytes = zeros(size + 1);
     ANSWERS(compressor_end_write(end, bytes, size - 1), COMPRESSOR_TOO_SHORT, size);
     IS(bytes[0] == 0);

@@ -4,7 +4,7 @@ use core::sync::atomic::Ordering;
 use super::Space;
 use crate::{Shape, Value};
 
-/// The words that a [`Buffer`] takes at once.
+/// The most words that a [`Buffer`] takes at once.
 pub const CHUNK: u64 = 4096;
 
 /// What one thread allocates from: zeroed words of a space that are its own. After a collection, or with another
@@ -37,13 +37,14 @@ impl Space<'_> {
         Some(self.object_at(index))
     }
 
-    /// The index of an object for which the buffer has no words. A large one gets words of its own.
+    /// The index of an object for which the buffer has no words. A large one gets words of its own, and so do all where
+    /// no more are to be had.
     #[cold]
     fn alloc_slowly(&self, buffer: &mut Buffer, words: u64) -> Option<u64> {
-        if words > CHUNK / 4 {
-            return Some(self.take(words, words)?.start);
+        let taken = self.take(words, if words > CHUNK / 4 { words } else { CHUNK })?;
+        if taken.end - taken.start == words {
+            return Some(taken.start);
         }
-        let taken = self.take(words, CHUNK)?;
         // It goes on where the last one ended.
         let at = if buffer.end == taken.start { buffer.at } else { taken.start };
         buffer.at = at + words;
@@ -51,14 +52,18 @@ impl Space<'_> {
         Some(at)
     }
 
-    /// Takes zeroed words, at least `least` and else up to `most`.
+    /// Takes zeroed words, at least `least`, and else up to `most`; but if there is a limit below the room, no more
+    /// than a sixteenth of those up to it, and none above. So threads share what is left, and it is due when it is
+    /// used.
     fn take(&self, least: u64, most: u64) -> Option<Range<u64>> {
-        let more = |used| self.room.min(used + most);
-        let used = self.used.fetch_update(Ordering::Relaxed, Ordering::Relaxed, |used| {
-            (self.room - used >= least).then(|| more(used))
-        });
-        let start = used.ok()?;
-        let taken = start..more(start);
+        let is_limited = self.limit < self.room;
+        let more = |used: u64| {
+            let left = self.room - used;
+            let some = if is_limited { self.limit.saturating_sub(used) / 16 } else { left };
+            (left >= least).then(|| used + some.clamp(least, most))
+        };
+        let start = self.used.fetch_update(Ordering::Relaxed, Ordering::Relaxed, more).ok()?;
+        let taken = start..more(start)?;
         for cell in &self.cells()[taken.start as usize..taken.end as usize] {
             cell.store(0, Ordering::Relaxed);
         }

@@ -27,7 +27,8 @@ pub struct Space<'m> {
     is_owned: bool,
     pub(super) room: u64,
     pub(super) used: AtomicU64,
-    limit: u64,
+    /// All of the room, until something else is said.
+    pub(super) limit: u64,
     pub(super) edition: Edition,
     /// The address of the first word.
     pub(super) base: u64,
@@ -114,19 +115,71 @@ impl<'m> Space<'m> {
         self.used() >= self.limit
     }
 
-    /// From so many words on it is time to collect; after each collection that is all of the room.
+    /// From so many words on it is time to collect.
+    pub fn limit(&self) -> u64 {
+        self.limit
+    }
+
+    /// From so many words on it is time to collect. A limit stays over collections and resets, cut down to the room;
+    /// one of 0, or of all of the room, becomes all of the room that there is then.
     pub fn set_limit(&mut self, words: u64) {
         self.limit = words;
     }
 
-    /// From now on the first `used` words of the memory are objects, and all buffers are empty.
+    /// Sets the limit by the words that live, when the space was made and after each collection. It is time to collect
+    /// again when `factor` times as many are used, or an eighth of the room more than live, if that is later; but a
+    /// sixteenth of the room stays above the limit. Answers how many words more than the live ones may be used until
+    /// then. `None` if the live words fill the room but for that sixteenth: the heap is full, and would be due at each
+    /// poll.
+    ///
+    /// The sixteenth is for what all threads make once it is due, each until its next safepoint: if that has no more
+    /// words, [`alloc`](Space::alloc) finds room for it. Where it may have more, as by many threads or large objects,
+    /// cut the limit down to as many words below the room ([`set_limit`](Space::set_limit)): then the heap is full
+    /// where that is not above the live ones.
+    ///
+    /// ```
+    /// use compressor::rest::{Buffer, Space};
+    /// use compressor::{Edition, Refusal, Shape, Value};
+    ///
+    /// # fn main() -> Result<(), Refusal> {
+    /// let pair = Shape { refs: 2, weak: 0, data: 0, tag: 1 }.header(Edition::Four).expect("a shape");
+    /// let mut space = Space::new(Edition::Four, vec![0; 4096].into(), 0);
+    /// let (mut buffer, mut roots) = (Buffer::default(), [Value::NULL]);
+    /// let mut left = space.limit_by(0, 2);
+    /// while left.is_some() {
+    ///     let made = space.alloc(&mut buffer, pair).expect("room above the limit");
+    ///     space.store(made, 0, roots[0]);
+    ///     roots[0] = made; // all pairs live, so that the heap fills up
+    ///     if space.is_due() {
+    ///         let live = space.collect(&mut roots)?;
+    ///         left = space.limit_by(live, 2);
+    ///     }
+    /// }
+    /// assert!(space.used() >= 4096 / 16 * 15);
+    /// # Ok(())
+    /// # }
+    /// ```
+    #[must_use = "without words that are left the heap is full"]
+    pub fn limit_by(&mut self, live: u64, factor: u64) -> Option<u64> {
+        let most = self.room - self.room.div_ceil(16);
+        let left = most.saturating_sub(live);
+        let by_factor = live.saturating_mul(factor.saturating_sub(1));
+        let more = by_factor.max(self.room.div_ceil(8)).min(left);
+        self.limit = most - left + more;
+        (more > 0).then_some(more)
+    }
+
+    /// From now on the first `used` words of the memory are objects, and all buffers are empty. The limit stays
+    /// ([`set_limit`](Space::set_limit)).
     ///
     /// # Panics
     /// If there is no room for so many words.
     pub fn reset(&mut self, used: u64) {
-        self.room = self.room_in(self.length, used);
+        let room = self.room_in(self.length, used);
+        let is_set = self.limit != 0 && self.limit < self.room;
+        self.limit = if is_set { self.limit.min(room) } else { room };
+        self.room = room;
         *self.used.get_mut() = used;
-        self.limit = self.room;
         self.base = FROM_SPACE;
         self.empty_buffers();
     }
