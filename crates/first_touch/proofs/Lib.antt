@@ -1,0 +1,6 @@
+pub mod Lists
+pub mod Knowing
+pub mod Steps
+pub mod TurnSteps
+pub mod Cutting
+pub mod Whole

@@ -1,0 +1,14 @@
+pub mod Asked
+pub mod Known
+pub mod Pages
+pub mod Rows
+pub mod Turning
+pub mod Having
+pub mod TurnHaving
+pub mod Homes
+pub mod Tables
+pub mod Seen
+pub mod Building
+pub mod Beginning
+pub mod DeskAnswers
+pub mod TurnAnswers

@@ -1,0 +1,26 @@
+-- What the calls of turns answer.
+use Rattle.std.specs.Prelude.{◌≡◌, ◌≢◌, ℕ, ◌<◌, ◌≤◌, List}
+use Rattle.stopped_heap.specs.declared.fault.SlideFault.TheVariants as slide
+use Rattle.first_touch.specs.Asked.{Asked, page_len, IsPageFault}
+use Rattle.first_touch.specs.Seen.{TurnDesk, page_id, IsSeenBusy}
+use Rattle.first_touch.specs.declared.turns.NotHad.{NotHad}
+use Rattle.first_touch.specs.declared.turns.NotHad.TheVariants as refusal
+use Rattle.first_touch.specs.declared.turns.TurnFault.{TurnFault}
+use Rattle.first_touch.specs.declared.turns.TurnFault.TheVariants as fault
+
+-- why page k was not had
+abbrev pub IsNotHad : TurnDesk → ℕ → NotHad → Type 0
+IsNotHad turns k refusal.NoSuchPage = turns.pages ≤ k
+IsNotHad turns k (refusal.Home home) = (k < turns.pages) × (home ≡ page_id turns.id k)
+IsNotHad turns k (refusal.Busy sight) = (k < turns.pages) × IsSeenBusy turns.id k sight
+
+-- why page k was not built in a memory of so many words
+abbrev pub IsTurnFault : Asked → ℕ → ℕ → TurnFault → Type 0
+IsTurnFault asked k room (fault.OtherRoom has) = (has ≡ page_len asked k) × (room ≢ has)
+IsTurnFault asked k room (fault.Slide why) = (room ≡ page_len asked k) × IsPageFault asked k why
+
+-- after these faults the memory is as it was; after the others some of its words are written
+abbrev pub IsAsItWas : TurnFault → List ℕ → List ℕ → Type 0
+IsAsItWas (fault.OtherRoom has) old new = new ≡ old
+IsAsItWas (fault.Slide slide.OtherCount) old new = new ≡ old
+IsAsItWas (fault.Slide why) old new = Unit {0}

@@ -1,0 +1,20 @@
+//! Why a slide is not begun.
+use stopped_heap::Places;
+
+/// Why a slide is not begun: the first of these that is so.
+#[derive(Clone, Copy, Debug, PartialEq, Eq)]
+pub enum BeginFault {
+    /// A page has no words.
+    NoSize,
+    /// To-space has not as many words as slide, which are these. Turns are never refused so.
+    OtherRoom(u64),
+    /// An allocation failed.
+    OutOfMemory,
+}
+
+/// A refusal of `begin`: why, and what the survey found, which comes back. Nothing was written.
+#[derive(Drop)]
+pub struct NotBegun {
+    pub fault: BeginFault,
+    pub places: Places,
+}
