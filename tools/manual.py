@@ -94,7 +94,7 @@ def page_of(text, version):
                 waiting = None
     out += [".PP", *written(waiting)] if waiting else []
     out += [".SH SEE ALSO", ".BR compressor (1),", "compressor_rest.h, inline functions for a heap at rest,"]
-    out += ["and C.md of the documents, which has the cycle as a whole."]
+    out += ["and docs/C.md in share/doc/compressor, which has the cycle as a whole."]
     return "\n".join(out) + "\n"
 
 

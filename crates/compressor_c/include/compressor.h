@@ -1,8 +1,8 @@
 /* compressor.h: a compacting garbage collector for runtimes in C, C++ and unverified Rust. There are two ways to use
    it. A flipped heap: threads go on while their heap is compacted, and read, write and allocate by calls of a mutator.
    A heap at rest: it lies in memory of the runtime's, which reads, writes and allocates there with no call
-   (compressor_rest.h), and stands still for a collection. docs/C.md is the guide; here is the manual of each call. The
-   library calls malloc, realloc and free, and nothing else.
+   (compressor_rest.h), and stands still for a collection. Here is the manual of each call, and docs/C.md is the guide;
+   docs/ is installed in share/doc/compressor. The library calls malloc, realloc and free, and nothing else.
 
    Handles. Each kind of thing has a struct of its own: heap, plan, crew, mutator, end; survey, tables, job. A handle is
    empty or keeps one thing. Begin with COMPRESSOR_EMPTY, or with zero bytes. Only calls write to a handle. It may be
