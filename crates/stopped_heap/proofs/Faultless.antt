@@ -63,24 +63,24 @@ module _ (heap : Heap) (sound : IsSound heap) (are : AreReached heap.edition hea
   pub faultless : (fault : SurveyFault) → IsFaultOf heap.edition heap.words heap.roots fault → fault ≡ OutOfMemory
   faultless TooLarge is = absurd (elim is [ inl many ↦ omega (arith, many, sound.few_words) | inr many ↦ omega (arith, many, sound.few_roots) ])
   faultless (BadRoot k) is =
-      absurd (both_ways (is_within heap.edition (length heap.words) (get_or heap.roots k 0)) is.1 (value-within (get_or heap.roots k 0) (sound.roots k 0 is.0)))
-  faultless (BadReference j) (i, reached, f, few, place, nowhere) = absurd (
+      absurd (both_ways (is_within heap.edition (length heap.words) (get_or heap.roots k 0)) is.1.1 (value-within (get_or heap.roots k 0) (sound.roots k 0 is.1.0)))
+  faultless (BadReference j) (_, (i, reached, f, few, place, nowhere)) = absurd (
       let at = number i reached in
       let there : get_or heap.marks at.0 0 + (1 + f) ≡ j = omega (arith, at.2, place) in
       let short : 1 + f ≤ refs_of (header_at heap.edition heap.words (get_or heap.marks at.0 0)) = omega (arith, few, ap (λ (n : ℕ). refs_of (header_at heap.edition heap.words n)) at.2) in
       let value = reference-value heap sound at.0 (1 + f) at.1 (omega arith) short in
       both_ways (is_within heap.edition (length heap.words) (get_or heap.words j 0)) nowhere
       (subst (λ (n : ℕ). is_within heap.edition (length heap.words) (get_or heap.words n 0) ≡ true) there (value-within (get_or heap.words (get_or heap.marks at.0 0 + (1 + f)) 0) value)))
-  faultless (BadWeak j) (i, reached, f, few, place, nowhere) = absurd (
+  faultless (BadWeak j) (_, (i, reached, f, few, place, nowhere)) = absurd (
       let at = number i reached in
       let refs = ap (λ (n : ℕ). refs_of (header_at heap.edition heap.words n)) at.2 in
       let there : get_or heap.marks at.0 0 + 1 + refs_of (header_at heap.edition heap.words (get_or heap.marks at.0 0)) + f ≡ j = omega (arith, at.2, place, refs) in
       let led = weak-within at.0 f at.1 (omega (arith, few, ap (λ (n : ℕ). weak_of (header_at heap.edition heap.words n)) at.2)) in
       both_ways (is_within heap.edition (length heap.words) (get_or heap.words j 0)) nowhere
       (subst (λ (n : ℕ). is_within heap.edition (length heap.words) (get_or heap.words n 0) ≡ true) there led))
-  faultless (ObjectTooLong i) is = absurd (let placed = reached-placed i is.0 in omega (arith, placed.short, is.1))
-  faultless (ObjectPastEnd i) is = absurd (let placed = reached-placed i is.0 in omega (arith, placed.within, is.1))
-  faultless (Overlap i) (reached, j, other, apart, n, one, two) = absurd (
+  faultless (ObjectTooLong i) is = absurd (let placed = reached-placed i is.1.0 in omega (arith, placed.short, is.1.1))
+  faultless (ObjectPastEnd i) is = absurd (let placed = reached-placed i is.1.0 in omega (arith, placed.within, is.1.1))
+  faultless (Overlap i) (_, (reached, j, other, apart, n, one, two)) = absurd (
       let k = number i reached in
       let l = number j other in
       let size_i = ap (λ (m : ℕ). size_of (header_at heap.edition heap.words m)) k.2 in

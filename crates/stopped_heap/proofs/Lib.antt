@@ -35,3 +35,15 @@ pub mod Leading
 pub mod Lasting
 pub mod Asking
 pub mod Covered
+pub mod Grown
+pub mod Held
+pub mod RunBlocks
+pub mod GivenBits
+pub mod Slid
+pub mod LookedAt
+pub mod LooksFound
+pub mod RowsLooked
+pub mod TidyWords
+pub mod Starting
+pub mod Ended
+pub mod Guardians

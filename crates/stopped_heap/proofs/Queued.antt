@@ -14,7 +14,7 @@ use Rattle.stopped_heap.specs.Meeting.{AreOnce}
 pub once-of : (count : ℕ) (P : ℕ → Type 0) (queue : List ℕ) → IsQueue (is_below count) P queue → AreOnce count queue
 once-of count P queue is = record { once = is.once; within = λ i there. ltb-true i count (is.of_row i there) }
 
-queue-of : (count : ℕ) (queue : List ℕ) → AreOnce count queue → IsQueue (is_below count) (λ _. Unit {0}) queue
+pub queue-of : (count : ℕ) (queue : List ℕ) → AreOnce count queue → IsQueue (is_below count) (λ _. Unit {0}) queue
 queue-of count queue are = record { of_row = λ i there. lt-ltb i count (are.within i there); once = are.once; holds = λ _ _. tt }
 
 -- in the empty queue

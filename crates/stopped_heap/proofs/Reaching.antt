@@ -27,7 +27,7 @@ pub record IsFollowed (edition : Edition) (words roots queue : List ℕ) (next :
   pub within : next ≤ length queue
 
 -- a word that is an address leads to its object
-leads-to : (words from : List ℕ) (word : ℕ) → has from word ≡ true → is_address (is_below (length words)) word ≡ true → LeadInto words from (word - 2 ^ 32)
+pub leads-to : (words from : List ℕ) (word : ℕ) → has from word ≡ true → is_address (is_below (length words)) word ≡ true → LeadInto words from (word - 2 ^ 32)
 leads-to words from word there address =
     let parts = and_parts (leb (2 ^ 32) word) (is_below (length words) (word - 2 ^ 32)) address in
     let above = leb-true (2 ^ 32) word parts.0 in

@@ -1,13 +1,11 @@
--- The bits of a block, from a bit on, and the last head.
-use Rattle.std.proofs.Common.{◌≡◌, ℕ, ◌+◌, ◌-◌, ◌*◌, ◌/◌, ◌%◌, ◌^◌, ◌<◌, ◌≤◌, ◌==◌, ◌&&◌, true, false, leb, w64, List, get_or, inl, inr, sym, ap, ◌∙◌, arith}
+-- The bits of a block, from a bit on.
+use Rattle.std.proofs.Common.{◌≡◌, ℕ, ◌+◌, ◌-◌, ◌*◌, ◌/◌, ◌%◌, ◌^◌, ◌<◌, ◌≤◌, ◌==◌, true, false, w64, List, get_or, inl, inr, sym, ap, ◌∙◌, arith}
 use Rattle.std.specs.Int.{bit_at, trailing_zeros}
 use Rattle.std.proofs.Math.Nat.{div-le_self}
-use Rattle.std.proofs.lemmas.Bool.{cases_lt, cases_order, cases_eq, both_ways, and_from, le-leb}
+use Rattle.std.proofs.lemmas.Bool.{cases_lt, cases_eq, both_ways}
 use Rattle.std.proofs.lemmas.Nat.{shr-shr}
 use Rattle.std.proofs.lemmas.Nat.Bits.{bit_at-zero, bit_at_above, bit_at-trailing_zeros}
 use Rattle.heap_layout.specs.Bits.{bit}
-use Rattle.mark_tables.specs.MarkBitmap.{set_bits}
-use Rattle.mark_tables.specs.LiveWords.{live_below}
 use Rattle.stopped_heap.proofs.Bounding.{bit-empty}
 
 -- a bit of block b, from its bit s on
@@ -55,55 +53,9 @@ none-there bits i b s at low empty j from lt =
     let place : j ≡ 64 * b + s + k = omega (arith, at, from) in
     ap (bit bits) place ∙ at-bit bits b s k (omega (arith, at, from, lt)) ∙ ap (λ (n : ℕ). bit_at n k == 1) empty ∙ ap (λ (n : ℕ). n == 1) (bit_at-zero k)
 
--- ---- the last head below which few bits are set
-
-abbrev pub IsLastBehind : List ℕ → List ℕ → ℕ → ℕ → Type 0
-IsLastBehind heads bits n i = (j : ℕ) → i < j → bit heads j ≡ true → n < live_below (set_bits bits) j
-
-abbrev pub IsNot : List ℕ → List ℕ → ℕ → ℕ → Type 0
-IsNot heads bits n i = (bit heads i && leb (live_below (set_bits bits) i) n) ≡ false
-
-abbrev pub IsFewAt : List ℕ → List ℕ → ℕ → ℕ → Type 0
-IsFewAt heads bits n s = (bit heads s ≡ true) × (live_below (set_bits bits) s ≤ n)
-
--- it is before a bit that is not it
-pub before-bit : (heads bits : List ℕ) (n i s : ℕ) → IsFewAt heads bits n s → IsLastBehind heads bits n i → IsNot heads bits n i → s < i
-before-bit heads bits n i s few last fails = elim (cases_order s i) [
-  | inl same ↦ absurd (both_ways (bit heads i && leb (live_below (set_bits bits) i) n) fails
-      (and_from (bit heads i) (leb (live_below (set_bits bits) i) n) (sym (ap (bit heads) same) ∙ few.0)
-      (le-leb (live_below (set_bits bits) i) n (let here = ap (live_below (set_bits bits)) same in omega (arith, here, few.1)))))
-  | inr (inl less) ↦ less
-  | inr (inr more) ↦ absurd (let far = last s more few.0 in omega (arith, far, few.1))
-]
-
--- and before a block of zeros
+-- a bit that is set is before a block of zeros
 pub before-block : (heads : List ℕ) (i s : ℕ) → bit heads s ≡ true → s < i → get_or heads (i / 64) 0 ≡ 0 → s < i - i % 64
 before-block heads i s set lt empty = elim (cases_eq (s / 64) (i / 64)) [
   | inl same ↦ absurd (both_ways (bit heads s) (bit-empty heads s (ap (λ (n : ℕ). get_or heads n 0) same ∙ empty)) set)
   | inr other ↦ omega (arith, lt, other)
-]
-
--- one bit further down
-pub behind-bit : (heads bits : List ℕ) (n i : ℕ) → IsLastBehind heads bits n i → IsNot heads bits n i → IsLastBehind heads bits n (i - 1)
-behind-bit heads bits n i last fails j above set = elim (cases_lt i j) [
-  | inl far ↦ last j far set
-  | inr near ↦
-      let here : j ≡ i = omega (arith, above, near) in
-      elim (cases_lt n (live_below (set_bits bits) j)) [
-        | inl more ↦ more
-        | inr few ↦ absurd (both_ways (bit heads i && leb (live_below (set_bits bits) i) n) fails
-            (and_from (bit heads i) (leb (live_below (set_bits bits) i) n) (sym (ap (bit heads) here) ∙ set)
-            (le-leb (live_below (set_bits bits) i) n (let same = ap (live_below (set_bits bits)) here in omega (arith, same, few)))))
-      ]
-]
-
--- or one block
-pub behind-block : (heads bits : List ℕ) (n i : ℕ) → IsLastBehind heads bits n i → get_or heads (i / 64) 0 ≡ 0 → IsLastBehind heads bits n (i - i % 64 - 1)
-behind-block heads bits n i last empty j above set = elim (cases_lt i j) [
-  | inl far ↦ last j far set
-  | inr near ↦ absurd (
-      elim (cases_eq (j / 64) (i / 64)) [
-        | inl same ↦ both_ways (bit heads j) (bit-empty heads j (ap (λ (m : ℕ). get_or heads m 0) same ∙ empty)) set
-        | inr other ↦ omega (arith, near, other, above)
-      ])
 ]

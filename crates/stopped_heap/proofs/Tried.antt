@@ -1,5 +1,5 @@
 -- The part, as far as it is filled from words that may be others than those that were surveyed.
-use Rattle.std.proofs.Common.{◌≡◌, ◌≢◌, ℕ, ◌+◌, ◌-◌, ◌*◌, ◌<◌, ◌≤◌, ◌⊎◌, true, false, List, length, get_or, take, inl, inr, sym, ap, subst, ◌∙◌, arith}
+use Rattle.std.proofs.Common.{◌≡◌, ◌≢◌, ℕ, ◌+◌, ◌-◌, ◌*◌, ◌<◌, ◌≤◌, ◌⊎◌, true, false, List, length, get_or, take, inl, inr, refl, sym, ap, subst, ◌∙◌, arith}
 use Rattle.std.proofs.lemmas.Bool.{cases_lt, cases_order, both_ways}
 use Rattle.heap_layout.specs.declared.edition.Edition.{Edition}
 use Rattle.heap_layout.specs.Bits.{bit}
@@ -9,7 +9,7 @@ use Rattle.mark_tables.specs.MarkBitmap.{set_bits}
 use Rattle.mark_tables.specs.LiveWords.{live_below, live_indices}
 use Rattle.page_plan.specs.Sliding.{live_words}
 use Rattle.page_plan.proofs.Objects.{live_words-all}
-use Rattle.stopped_heap.specs.Places.{led_by, led_words, words_now, IsAsFound, IsReferenceNow, IsSlideFault}
+use Rattle.stopped_heap.specs.Places.{led_by, led_words, words_now, HasWordIn, IsAsFound, IsPartOf, IsReferenceNow, IsSlideFault}
 use Rattle.stopped_heap.specs.Surveys.{marks_of, told, AreTables}
 use Rattle.stopped_heap.specs.declared.fault.SlideFault.TheVariants.{Changed, Unmarked}
 use Rattle.stopped_heap.proofs.Bounding.{bit-inside}
@@ -137,24 +137,48 @@ module _ (edition : Edition) (ws heads bits counts : List ℕ) (tables : AreTabl
     pub reaches : first < place_behind
     pub behind : number + 1 < length (marks_of heads) → next ≡ mark (number + 1)
 
-  pub is-next : (words : List ℕ) (first place start : ℕ) (part : List ℕ) (is : IsTried heap words first place start part) → place < length (set_bits bits) → (next place_behind : ℕ)
-      → start < next → ((j : ℕ) → start < j → j < next → bit heads j ≡ false) → (next < 64 * length heads → bit heads next ≡ true)
-      → (next < 64 * length bits → place_behind ≡ live_below (set_bits bits) next) → (64 * length bits ≤ next → place_behind ≡ length (set_bits bits))
-      → IsNext words first place start next place_behind is.number
-  is-next words first place start part is lt next place_behind from none here below all =
+  pub is-next : (words : List ℕ) (first place start : ℕ) (part : List ℕ) (is : IsTried heap words first place start part) → place < length (set_bits bits) → (place_behind : ℕ)
+      → place_behind ≡ place + size_of (header_at edition ws start) → IsNext words first place start (mark (is.number + 1)) place_behind is.number
+  is-next words first place start part is lt place_behind behind =
       let known = more-objects words first place start part is lt in
       let at = is.here known in
-      let ends = next-place is.number start next place_behind known at from none here below all in
       let own = starts-next heap tables.sound 0 is.number known in
       let sized = ap (λ (n : ℕ). size_of (header_at edition ws n)) at in
+      let ends : place_behind ≡ starts (is.number + 1) = omega (arith, behind, own, is.at, sized) in
       record {
         known = known;
         at = at;
         ends = ends;
-        size = omega (arith, ends, own, is.at, sized);
+        size = behind;
         reaches = omega (arith, ends, is.ahead known);
-        behind = next-head is.number start next known at from none here;
+        behind = λ more. refl;
       }
+
+  -- it starts at the next head, if words of it slide in front of the last one
+  pub next-start : (words : List ℕ) (first place start place_behind number : ℕ) → IsNext words first place start (mark (number + 1)) place_behind number → place_behind < length (set_bits bits)
+      → (next : ℕ) → start < next → ((j : ℕ) → start < j → j < next → bit heads j ≡ false) → (next < 64 * length heads → bit heads next ≡ true) → mark (number + 1) ≡ next
+  next-start words first place start place_behind number object lt next from none here = elim (cases_lt (number + 1) (length (marks_of heads))) [
+    | inl more ↦ sym (next-head number start next object.known object.at from none here more)
+    | inr done ↦ absurd (omega (arith, live_words-all edition ws (marks_of heads) (number + 1) done, object.ends, lt, all-words edition ws heads bits counts tables))
+  ]
+
+  -- how many live words are below the next object
+  pub start-below : (words : List ℕ) (first place start : ℕ) (part : List ℕ) (is : IsTried heap words first place start part) → place < length (set_bits bits) → place ≡ live_below (set_bits bits) start
+  start-below words first place start part is lt =
+      let known = more-objects words first place start part is lt in
+      omega (arith, is.at, head-below edition ws heads bits counts tables is.number known, ap (live_below (set_bits bits)) (is.here known))
+
+  -- an object whose words are all live words up to the next head has so many
+  pub size-between : (start next place place_behind : ℕ) → bit heads start ≡ true → place ≡ live_below (set_bits bits) start → start < next → ((j : ℕ) → start < j → j < next → bit heads j ≡ false)
+      → (next < 64 * length heads → bit heads next ≡ true) → (next < 64 * length bits → place_behind ≡ live_below (set_bits bits) next) → (64 * length bits ≤ next → place_behind ≡ length (set_bits bits))
+      → place_behind ≡ place + size_of (header_at edition ws start)
+  size-between start next place place_behind set placed from none here below all =
+      let number = head-number heads start set in
+      let at : start ≡ mark number.0 = sym number.2 in
+      let ends = next-place number.0 start next place_behind number.1 at from none here below all in
+      let own = starts-next heap tables.sound 0 number.0 number.1 in
+      let first = head-below edition ws heads bits counts tables number.0 number.1 in
+      omega (arith, ends, own, first, placed, ap (live_below (set_bits bits)) at, ap (λ (n : ℕ). size_of (header_at edition ws n)) at)
 
   -- the object as it is now is placed, if it has as many words as before
   pub now-placed : (words : List ℕ) (k start : ℕ) → k < length (marks_of heads) → start ≡ mark k → length ws ≡ length words → size_of (header_at edition words start) ≡ size_of (header_at edition ws start)
@@ -256,18 +280,41 @@ module _ (edition : Edition) (ws heads bits counts : List ℕ) (tables : AreTabl
 
   -- ---- faults
 
-  -- the next object has another size than before
-  pub tried-changed : (words : List ℕ) (first count place start next place_behind number size : ℕ) → IsNext words first place start next place_behind number
+  -- the part is one of the live words, and there are as many words as were surveyed
+  part-is : (words : List ℕ) (first count : ℕ) → length ws ≡ length words → first + count ≤ length (set_bits bits) → IsPartOf (found_of heap 0) words first count
+  part-is words first count same within = (omega (arith, within, ap length tables.indices), sym same)
+
+  -- the next object has a word in the part, if it slides to a place before its end
+  next-in-part : (words : List ℕ) (first count place start next place_behind number : ℕ) → IsNext words first place start next place_behind number → place ≡ starts number
+      → 0 < count → place < first + count → HasWordIn (found_of heap 0) number first count
+  next-in-part words first count place start next place_behind number object at some before =
+      let from = place-is heap tables.sound 0 number in
+      let to = place-is heap tables.sound 0 (number + 1) in
+      elim (cases_lt place first) [
+        | inl earlier ↦ (first, omega arith, omega (arith, some), omega (arith, earlier, at, from), omega (arith, object.reaches, object.ends, to))
+        | inr here ↦ (place, here, before, omega (arith, at, from), omega (arith, object.size, object.ends, to))
+      ]
+
+  -- it has another size than before
+  pub tried-changed : (words : List ℕ) (first count place start next place_behind number size : ℕ) → IsNext words first place start next place_behind number → place ≡ starts number
+      → length ws ≡ length words → first + count ≤ length (set_bits bits) → 0 < count → place < first + count
       → size ≡ size_of (header_at edition words start) → place ≤ place_behind → size ≢ place_behind - place → IsSlideFault (found_of heap 0) words first count (Changed start)
-  tried-changed words first count place start next place_behind number size object sized order other =
-      (number, object.known, object.at, λ same. other (omega (arith, sized, same, size-is heap tables.sound 0 number object.known, object.size, ap (λ (n : ℕ). size_of (header_at edition ws n)) object.at)))
+  tried-changed words first count place start next place_behind number size object at same within some before sized order other = (
+    part-is words first count same within,
+    number,
+    object.known,
+    object.at,
+    next-in-part words first count place start next place_behind number object at some before,
+    λ same_size. other (omega (arith, sized, same_size, size-is heap tables.sound 0 number object.known, object.size, ap (λ (n : ℕ). size_of (header_at edition ws n)) object.at)),
+  )
 
   -- one of its references leads to no live object
   pub tried-unmarked : (words : List ℕ) (first place start : ℕ) (part : List ℕ) (is : IsTried heap words first place start part) (next place_behind f : ℕ)
-      → IsNext words first place start next place_behind is.number → (count : ℕ) → first - place ≤ f → place + f < first + count → f < place_behind - place
+      → IsNext words first place start next place_behind is.number → (count : ℕ) → length ws ≡ length words → first + count ≤ length (set_bits bits)
+      → first - place ≤ f → place + f < first + count → f < place_behind - place
       → 1 ≤ f → f ≤ refs_of (header_at edition words start) → is_value edition (marks_of heads) (get_or words (start + f) 0) ≡ false
       → IsSlideFault (found_of heap 0) words first count (Unmarked (start + f))
-  tried-unmarked words first place start part is next place_behind f object count low high inside positive few stray =
+  tried-unmarked words first place start part is next place_behind f object count same within low high inside positive few stray =
       let k = is.number in
       let known = object.known in
       let at = object.at in
@@ -279,4 +326,4 @@ module _ (edition : Edition) (ws heads bits counts : List ℕ) (tables : AreTabl
       let owns = owner-is heap tables.sound 0 k f known small in
       let refers : IsReferenceNow (found_of heap 0) words (mark k + f) =
       (omega (arith, owns, positive), omega (arith, owns, few, ap (λ (m : ℕ). refs_of (header_at edition words m)) owns, ap (λ (m : ℕ). refs_of (header_at edition words m)) at)) in
-      (place + f, omega (arith, low), high, here ∙ sym index, subst (IsReferenceNow (found_of heap 0) words) (sym here) refers, stray)
+      (part-is words first count same within, place + f, omega (arith, low), high, here ∙ sym index, subst (IsReferenceNow (found_of heap 0) words) (sym here) refers, stray)

@@ -85,27 +85,27 @@ module _ (heap : Heap) (sound : IsSound heap) (room : ℕ) where
   -- and no part is refused
   never-refused : (first count : ℕ) (fault : SlideFault) → first + count ≤ length (live_indices (live heap)) → IsSlideFault found heap.words first count fault → ⊥
   never-refused first count NoSuchPart within is = omega (arith, is, within)
-  never-refused first count OtherCount within is = is refl
+  never-refused first count OtherCount within is = is.1 refl
   never-refused first count (Changed i) within is =
-      let sized = ap (λ (m : ℕ). size_of (header_at heap.edition heap.words m)) is.2 in
-      is.3 (omega (arith, sized, size-is heap sound room is.0 is.1))
+      let sized = ap (λ (m : ℕ). size_of (header_at heap.edition heap.words m)) is.3 in
+      is.5 (omega (arith, sized, size-is heap sound room is.1 is.2))
   never-refused first count (Unmarked i) within is =
       let objects = live heap in
-      let n = is.0 in
-      let at = covered objects n (omega (arith, is.2, within, length-live objects)) in
+      let n = is.1 in
+      let at = covered objects n (omega (arith, is.3, within, length-live objects)) in
       let k = at.0 in
       let known : k < length heap.marks = omega (arith, at.1.known, length-map heap.marks (object_at heap.edition heap.words)) in
       let f = n - live_words (take k objects) in
       let inside : f < size_of (header_at heap.edition heap.words (get_or heap.marks k 0)) = omega (arith, at.1.begun, at.1.ends, starts-next heap sound room k known) in
       let index : live_words (take k objects) + f ≡ n = omega (arith, at.1.begun) in
-      let here : i ≡ get_or heap.marks k 0 + f = is.3 ∙ ap (λ (m : ℕ). get_or (live_indices objects) m 0) (sym index) ∙ index-is heap sound room k f known inside in
-      let refers : IsReferenceNow found heap.words (get_or heap.marks k 0 + f) = subst (IsReferenceNow found heap.words) here is.4 in
+      let here : i ≡ get_or heap.marks k 0 + f = is.4 ∙ ap (λ (m : ℕ). get_or (live_indices objects) m 0) (sym index) ∙ index-is heap sound room k f known inside in
+      let refers : IsReferenceNow found heap.words (get_or heap.marks k 0 + f) = subst (IsReferenceNow found heap.words) here is.5 in
       let owns = owner-is heap sound room k f known inside in
       let positive : 1 ≤ f = omega (arith, refers.0, owns) in
       let few : f ≤ refs_of (header_at heap.edition heap.words (get_or heap.marks k 0)) =
       omega (arith, refers.1, owns, ap (λ (m : ℕ). refs_of (header_at heap.edition heap.words m)) owns) in
       let value = subst (λ (m : ℕ). IsValue heap.edition heap.marks (get_or heap.words m 0)) (sym here) (reference-value heap sound k f known positive few) in
-      both_ways (is_value heap.edition heap.marks (get_or heap.words i 0)) is.5 value
+      both_ways (is_value heap.edition heap.marks (get_or heap.words i 0)) is.6 value
 
 -- ---- of what was found
 

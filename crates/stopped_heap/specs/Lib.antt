@@ -12,3 +12,11 @@ pub mod Places
 pub mod Rounds
 pub mod Kept
 pub mod LiveBits
+pub mod Growing
+pub mod Ephemerons
+pub mod Given
+pub mod Looks
+pub mod LookFaults
+pub mod Tidied
+pub mod Starts
+pub mod Guarded

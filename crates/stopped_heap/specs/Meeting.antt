@@ -1,12 +1,12 @@
 -- The objects that were met, and what was done with each.
-use Rattle.std.specs.Prelude.{◌≡◌, ℕ, ◌+◌, ◌<◌, ◌≤◌, ◌==◌, true, false, List, length, slice_index}
+use Rattle.std.specs.Prelude.{◌≡◌, ℕ, ◌+◌, ◌<◌, ◌≤◌, ◌==◌, true, false, List, fold, length, slice_index}
 use Rattle.std.specs.List.{IsDistinct}
 use Rattle.heap_layout.specs.declared.edition.Edition.{Edition}
 use Rattle.heap_layout.specs.Bits.{bit}
 use Rattle.heap_layout.specs.Header.{size_of}
 use Rattle.heap_layout.specs.Heap.{header_at, object_at, IsPlaced}
-use Rattle.reachability.specs.Queue.{has}
-use Rattle.stopped_heap.specs.Reached.{is_within, IsWordOf}
+use Rattle.reachability.specs.Queue.{has, after_word}
+use Rattle.stopped_heap.specs.Reached.{is_below, is_within, IsWordOf}
 use Rattle.stopped_heap.specs.declared.meeting.Stop.{Stop}
 use Rattle.stopped_heap.specs.declared.meeting.Stop.TheVariants.{Memory, Stray}
 
@@ -23,6 +23,11 @@ pub record AreOnce (count : ℕ) (queue : List ℕ) : Type 0 where
 abbrev pub IsShort : ℕ → ℕ → Stop → Type 0
 IsShort count capacity Memory = capacity < count
 IsShort count capacity (Stray k) = Unit {0}
+
+-- memory ran out only if one of these words leads to an object that was not met
+abbrev pub IsMore : ℕ → List ℕ → List ℕ → Stop → Type 0
+IsMore count queue words Memory = length queue < length (fold (after_word (is_below count)) queue words)
+IsMore count queue words (Stray k) = Unit {0}
 
 -- each of these words is an immediate, null, or the address of one of `count` words
 abbrev pub AllLead : Edition → ℕ → List ℕ → Type 0

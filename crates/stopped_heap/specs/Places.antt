@@ -60,6 +60,10 @@ place_of found k = cond (nat_lt k (length found.marks)) (live_below found.indice
 abbrev pub size_found : Found → ℕ → ℕ
 size_found found k = place_of found (k + 1) - place_of found k
 
+-- a word of the k-th live object slides into the part from word `first` on
+abbrev pub HasWordIn : Found → ℕ → ℕ → ℕ → Type 0
+HasWordIn found k first count = (n : ℕ) × (first ≤ n) × (n < first + count) × (place_of found k ≤ n) × (n < place_of found (k + 1))
+
 -- word i is a reference of its object as that is now
 abbrev pub IsReferenceNow : Found → List ℕ → ℕ → Type 0
 IsReferenceNow found words i =
@@ -73,14 +77,21 @@ pub record IsAsFound (found : Found) (words : List ℕ) (first count : ℕ) : Ty
   pub marked : (n : ℕ) → first ≤ n → n < first + count → IsReferenceNow found words (slice_index found.indices n)
       → IsValue found.edition found.marks (slice_index words (slice_index found.indices n))
 
--- why a part is not filled
+-- the part from word `first` on ends within the live words, and there are as many words as were surveyed
+abbrev pub IsPartOf : Found → List ℕ → ℕ → ℕ → Type 0
+IsPartOf found words first count = (first + count ≤ length found.indices) × (length words ≡ found.count)
+
+-- Why a part is not filled: it ends behind the live words; or it does not, and there are not as many words as were
+-- surveyed; or there are, and an object that has a word in the part was changed, or a reference in the part leads to no
+-- live object.
 abbrev pub IsSlideFault : Found → List ℕ → ℕ → ℕ → SlideFault → Type 0
 IsSlideFault found words first count NoSuchPart = length found.indices < first + count
-IsSlideFault found words first count OtherCount = length words ≢ found.count
+IsSlideFault found words first count OtherCount = (first + count ≤ length found.indices) × (length words ≢ found.count)
 IsSlideFault found words first count (Changed i) =
-    (k : ℕ) × (k < length found.marks) × (i ≡ slice_index found.marks k) × (size_of (header_at found.edition words i) ≢ size_found found k)
+    IsPartOf found words first count × (k : ℕ) × (k < length found.marks) × (i ≡ slice_index found.marks k) × HasWordIn found k first count
+    × (size_of (header_at found.edition words i) ≢ size_found found k)
 IsSlideFault found words first count (Unmarked i) =
-    (n : ℕ) × (first ≤ n) × (n < first + count) × (i ≡ slice_index found.indices n) × IsReferenceNow found words i
+    IsPartOf found words first count × (n : ℕ) × (first ≤ n) × (n < first + count) × (i ≡ slice_index found.indices n) × IsReferenceNow found words i
     × (is_value found.edition found.marks (slice_index words i) ≡ false)
 
 -- what the tables of a survey of so many words say

@@ -64,17 +64,32 @@ IsWordOf edition words i j = (i ≤ j) × (j < i + size_of (header_at edition wo
 abbrev pub IsStray : Edition → List ℕ → ℕ → Type 0
 IsStray edition words word = is_within edition (length words) word ≡ false
 
--- The fault is one of these words and roots. Memory may run out only if there are not too many of them.
-abbrev pub IsFaultOf : Edition → List ℕ → List ℕ → SurveyFault → Type 0
-IsFaultOf edition words roots TooLarge = (most_words edition < length words) ⊎ (most_roots edition < length roots)
-IsFaultOf edition words roots (BadRoot k) = (k < length roots) × IsStray edition words (slice_index roots k)
-IsFaultOf edition words roots (BadReference j) =
+-- there are not more words and roots than the edition allows
+abbrev pub AreFew : Edition → List ℕ → List ℕ → Type 0
+AreFew edition words roots = (length words ≤ most_words edition) × (length roots ≤ most_roots edition)
+
+-- The fault is one of these words and roots, however many there are.
+abbrev pub IsHeapFaultOf : Edition → List ℕ → List ℕ → SurveyFault → Type 0
+IsHeapFaultOf edition words roots TooLarge = ⊥
+IsHeapFaultOf edition words roots (BadRoot k) = (k < length roots) × IsStray edition words (slice_index roots k)
+IsHeapFaultOf edition words roots (BadReference j) =
     (i : ℕ) × IsReachedFrom edition words roots i × (f : ℕ) × (f < refs_of (header_at edition words i)) × (j ≡ i + 1 + f) × IsStray edition words (slice_index words j)
-IsFaultOf edition words roots (BadWeak j) =
+IsHeapFaultOf edition words roots (BadWeak j) =
     (i : ℕ) × IsReachedFrom edition words roots i × (f : ℕ) × (f < weak_of (header_at edition words i)) × (j ≡ i + 1 + refs_of (header_at edition words i) + f)
     × IsStray edition words (slice_index words j)
-IsFaultOf edition words roots (ObjectTooLong i) = IsReachedFrom edition words roots i × (most_object_words edition < size_of (header_at edition words i))
-IsFaultOf edition words roots (ObjectPastEnd i) = IsReachedFrom edition words roots i × (length words < i + size_of (header_at edition words i))
-IsFaultOf edition words roots (Overlap i) =
+IsHeapFaultOf edition words roots (ObjectTooLong i) = IsReachedFrom edition words roots i × (most_object_words edition < size_of (header_at edition words i))
+IsHeapFaultOf edition words roots (ObjectPastEnd i) = IsReachedFrom edition words roots i × (length words < i + size_of (header_at edition words i))
+IsHeapFaultOf edition words roots (Overlap i) =
     IsReachedFrom edition words roots i × (j : ℕ) × IsReachedFrom edition words roots j × (j ≢ i) × (k : ℕ) × IsWordOf edition words i k × IsWordOf edition words j k
-IsFaultOf edition words roots OutOfMemory = (length words ≤ most_words edition) × (length roots ≤ most_roots edition)
+IsHeapFaultOf edition words roots OutOfMemory = Unit {0}
+
+-- Why a heap is refused: it is too large; or it is not, and the fault is one of its words and roots, or memory ran out.
+abbrev pub IsFaultOf : Edition → List ℕ → List ℕ → SurveyFault → Type 0
+IsFaultOf edition words roots TooLarge = (most_words edition < length words) ⊎ (most_roots edition < length roots)
+IsFaultOf edition words roots (BadRoot k) = AreFew edition words roots × IsHeapFaultOf edition words roots (BadRoot k)
+IsFaultOf edition words roots (BadReference j) = AreFew edition words roots × IsHeapFaultOf edition words roots (BadReference j)
+IsFaultOf edition words roots (BadWeak j) = AreFew edition words roots × IsHeapFaultOf edition words roots (BadWeak j)
+IsFaultOf edition words roots (ObjectTooLong i) = AreFew edition words roots × IsHeapFaultOf edition words roots (ObjectTooLong i)
+IsFaultOf edition words roots (ObjectPastEnd i) = AreFew edition words roots × IsHeapFaultOf edition words roots (ObjectPastEnd i)
+IsFaultOf edition words roots (Overlap i) = AreFew edition words roots × IsHeapFaultOf edition words roots (Overlap i)
+IsFaultOf edition words roots OutOfMemory = AreFew edition words roots

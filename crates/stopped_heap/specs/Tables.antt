@@ -32,18 +32,22 @@ pub record AreShort (edition : Edition) (words roots : List ℕ) (room : ℕ) : 
   pub few_roots : length roots ≤ most_roots edition
   pub short : room < length words
 
--- the fault is one of these words and roots, or of the room of the tables that were lent; memory never runs out
+-- The tables that were lent have room for fewer words; or the heap is refused, and they have room if it is not too
+-- large. Memory never runs out.
 abbrev pub IsLentFaultOf : Edition → List ℕ → List ℕ → ℕ → LentFault → Type 0
 IsLentFaultOf edition words roots room (lent.ShortTables has) = (has ≡ room) × AreShort edition words roots room
-IsLentFaultOf edition words roots room (lent.Survey fault) = IsFaultOf edition words roots fault × (fault ≢ survey.OutOfMemory)
+IsLentFaultOf edition words roots room (lent.Survey fault) =
+    IsFaultOf edition words roots fault × (fault ≢ survey.OutOfMemory) × (fault ≢ survey.TooLarge → length words ≤ room)
 
 -- the same of marks of the caller's own
 abbrev pub IsMarksLentFaultOf : Edition → List ℕ → List ℕ → List ℕ → ℕ → MarksLentFault → Type 0
 IsMarksLentFaultOf edition words roots heads room (marking.ShortTables has) = (has ≡ room) × AreShort edition words roots room
-IsMarksLentFaultOf edition words roots heads room (marking.Marks fault) = IsMarksFaultOf edition words roots heads fault × (fault ≢ refusal.OutOfMemory)
+IsMarksLentFaultOf edition words roots heads room (marking.Marks fault) =
+    IsMarksFaultOf edition words roots heads fault × (fault ≢ refusal.OutOfMemory) × (fault ≢ refusal.TooLarge → length words ≤ room)
 
--- the heap is not collected into a memory of `to` words by tables with this room; memory never runs out
+-- The heap is not collected into a memory of `to` words by tables with this room: that is for fewer words; or the heap is
+-- refused, or its live words do not fit, and there is room if it is not too large. Memory never runs out.
 abbrev pub RefusesLent : Edition → List ℕ → List ℕ → ℕ → ℕ → CollectLentFault → Type 0
 RefusesLent edition words roots room to (collecting.ShortTables has) = (has ≡ room) × AreShort edition words roots room
 RefusesLent edition words roots room to (collecting.Collect fault) =
-    RefusesCollection edition words roots to fault × (fault ≢ collect.Survey survey.OutOfMemory)
+    RefusesCollection edition words roots to fault × (fault ≢ collect.Survey survey.OutOfMemory) × (fault ≢ collect.Survey survey.TooLarge → length words ≤ room)

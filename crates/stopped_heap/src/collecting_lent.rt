@@ -1,5 +1,5 @@
 //! The whole collection, by tables that are lent.
-ghost use Rattle.std.specs.Prelude.{◌≡◌, ◌≢◌, ◌<◌, ◌≤◌, ℕ, List, length, vec_capacity, IfOk, IfErr, OnErr};
+ghost use Rattle.std.specs.Prelude.{◌≡◌, ◌≢◌, ◌*◌, ◌<◌, ◌≤◌, ℕ, List, length, vec_capacity, IfOk, IfErr, OnErr};
 ghost use Rattle.heap_layout.specs.Limits.{most_words, most_roots};
 ghost use Rattle.stopped_heap.specs.Collecting.{HasCollected, RefusesCollection};
 ghost use Rattle.stopped_heap.specs.Tables.{HaveRoom, RefusesLent};
@@ -10,6 +10,7 @@ use crate::fault::{CollectFault, CollectLentFault, SurveyFault};
 use crate::forwarding::settle_all;
 use crate::lending::fill;
 use crate::sliding::slide_part;
+use crate::starts::put_starts;
 use crate::tables::Tables;
 use heap_layout::Edition;
 
@@ -22,10 +23,12 @@ fn collect_in(
     heads: &mut Vec<u64>,
     bits: &mut Vec<u64>,
     counts: &mut Vec<u32>,
+    starts: &mut Vec<u32>,
     queue: &mut Vec<u32>,
 ) -> Result<u64, CollectFault>
     requires sizes { (length words.now ≤ most_words edition) × (length roots.old ≤ most_roots edition) }
     requires room { HaveRoom (length words.now) (vec_capacity heads.old) (vec_capacity bits.old) (vec_capacity counts.old) (vec_capacity queue.old) }
+    requires for_starts { length words.now ≤ 64 * vec_capacity starts.old }
     ensures collected { IfOk result (λ live. HasCollected edition words.now roots.old live roots.new to.old to.new) }
     ensures fault { IfErr result (RefusesCollection edition words.now roots.old (length to.old)) }
     ensures never { IfErr result (λ fault. fault ≢ collect.Survey survey.OutOfMemory) }
@@ -34,11 +37,13 @@ fn collect_in(
     ensures heads { vec_capacity heads.old ≤ vec_capacity heads.new }
     ensures bits { vec_capacity bits.old ≤ vec_capacity bits.new }
     ensures counts { vec_capacity counts.old ≤ vec_capacity counts.new }
+    ensures starts { vec_capacity starts.old ≤ vec_capacity starts.new }
     ensures queue { vec_capacity queue.old ≤ vec_capacity queue.new }
 {
     if let Err(fault) = fill(edition, words, roots, heads, bits, counts, queue) {
         return Err(CollectFault::Survey(fault));
     }
+    put_starts(heads, starts);
     let live = u64::from(counts[bits.len()]);
     if live > to.len() as u64 {
         return Err(CollectFault::NoRoom(live));
@@ -49,6 +54,7 @@ fn collect_in(
         heads,
         bits,
         counts,
+        starts,
         0,
         &mut to[..live as usize],
     );
@@ -68,6 +74,7 @@ pub fn collect_lent(
     to: &mut [u64],
 ) -> Result<u64, CollectLentFault>
     ensures collected { IfOk result (λ live. HasCollected edition words.now roots.old live roots.new to.old to.new) }
+    ensures fits { IfOk result (λ _. length words.now ≤ tables.old.room) }
     ensures fault { IfErr result (RefusesLent edition words.now roots.old tables.old.room (length to.old)) }
     ensures roots_stay { OnErr result (roots.new ≡ roots.old) }
     ensures to_stays { OnErr result (to.new ≡ to.old) }
@@ -88,6 +95,7 @@ pub fn collect_lent(
         &mut tables.heads,
         &mut tables.bits,
         &mut tables.counts,
+        &mut tables.starts,
         &mut tables.queue,
     );
     match collected {

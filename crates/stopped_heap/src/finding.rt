@@ -3,6 +3,7 @@ ghost use Rattle.std.specs.Prelude.{◌≡◌, ◌-◌, ◌*◌, ◌<◌, ◌^�
 ghost use Rattle.heap_layout.specs.Bits.{bit};
 ghost use Rattle.mark_tables.specs.MarkBitmap.{set_bits, AreOffsets};
 ghost use Rattle.mark_tables.specs.LiveWords.{live_below};
+ghost use Rattle.stopped_heap.specs.Starts.{AreStarts};
 
 use crate::forwarding::below;
 use heap_layout::is_set;
@@ -55,6 +56,7 @@ fn block_of(counts: &[u32], n: u64) -> usize
 }
 
 // Whether bit `i` of `heads` is set, and at most `n` bits are set below bit `i` of `bits`.
+#[inline(always)]
 fn is_at_most(heads: &[u64], bits: &[u64], counts: &[u32], n: u64, i: usize) -> bool
     requires offsets { AreOffsets bits.now counts.now }
     requires same { length heads.now ≡ length bits.now }
@@ -65,9 +67,16 @@ fn is_at_most(heads: &[u64], bits: &[u64], counts: &[u32], n: u64, i: usize) -> 
 }
 
 /// The last bit of `heads` that is set, and below which at most `n` bits of `bits` are set. There must be one, and more
-/// than `n` bits of `bits` must be set.
-pub(crate) fn last_head(heads: &[u64], bits: &[u64], counts: &[u32], n: u64) -> usize
+/// than `n` bits of `bits` must be set. It finds the block by bisection, and looks at no other block.
+pub(crate) fn last_head(
+    heads: &[u64],
+    bits: &[u64],
+    counts: &[u32],
+    starts: &[u32],
+    n: u64,
+) -> usize
     requires offsets { AreOffsets bits.now counts.now }
+    requires starts { AreStarts heads.now starts.now }
     requires same { length heads.now ≡ length bits.now }
     requires some { (i : ℕ) × (bit heads.now i ≡ true) × (live_below (set_bits bits.now) i ≤ n) }
     requires more { n < length (set_bits bits.now) }
@@ -76,12 +85,18 @@ pub(crate) fn last_head(heads: &[u64], bits: &[u64], counts: &[u32], n: u64) -> 
     ensures below { live_below (set_bits bits.now) result ≤ n }
     ensures last { (j : ℕ) → result < j → bit heads.now j ≡ true → n < live_below (set_bits bits.now) j }
 {
-    let mut i = 64 * block_of(counts, n) + 63;
-    while !is_at_most(heads, bits, counts, n, i) {
-        if heads[i / 64] == 0 {
-            i -= i % 64;
-        }
-        i -= 1;
+    let b = block_of(counts, n);
+    let first = 64 * b;
+    let before = starts[b] as usize;
+    if heads[b] == 0 {
+        return before;
     }
-    i
+    let mut i = first + 64;
+    while i > first {
+        i -= 1;
+        if is_at_most(heads, bits, counts, n, i) {
+            return i;
+        }
+    }
+    before
 }

@@ -103,6 +103,7 @@ pub fn collect_in_place_lent(
     roots: &mut [u64],
 ) -> Result<u64, LentFault>
     ensures collected { IfOk result (λ live. HasCollected edition words.old roots.old live roots.new words.old words.new) }
+    ensures fits { IfOk result (λ _. length words.old ≤ tables.old.room) }
     ensures fault { IfErr result (IsLentFaultOf edition words.old roots.old tables.old.room) }
     ensures words_stay { OnErr result (words.new ≡ words.old) }
     ensures roots_stay { OnErr result (roots.new ≡ roots.old) }

@@ -14,8 +14,8 @@ use crate::marks::{check_kept, take_marks};
 use crate::offsets::put_offsets;
 use heap_layout::Edition;
 
-// So many blocks, in which no bit is set. There must be room for them.
-fn clear(bits: &mut Vec<u64>, blocks: usize)
+/// So many blocks, in which no bit is set. There must be room for them.
+pub(crate) fn clear(bits: &mut Vec<u64>, blocks: usize)
     requires { blocks ≤ vec_capacity bits.old }
     ensures items { bits.new.items ≡ replicate blocks 0 }
     ensures len { vec_len bits.new ≡ blocks }
@@ -42,6 +42,7 @@ pub(crate) fn fill(
     ensures reached { OnOk result (AreReached edition words.now roots.now (marks_of heads.new.items)) }
     ensures sound { OnOk result (IsSound (record { edition = edition; words = words.now; marks = marks_of heads.new.items; roots = roots.now })) }
     ensures tables { OnOk result (AreTables edition words.now heads.new.items bits.new.items counts.new.items) }
+    ensures long { OnOk result (length heads.new.items ≡ (length words.now + 63) / 64) }
     ensures fault { IfErr result (IsFaultOf edition words.now roots.now) }
     ensures never { IfErr result (λ fault. fault ≢ survey.OutOfMemory) }
     ensures heads { vec_capacity heads.old ≤ vec_capacity heads.new }

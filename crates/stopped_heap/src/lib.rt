@@ -11,6 +11,11 @@
 //! not run out. It borrows the words. `Survey::release` lets them go: `Places` keep what was found, and slide the
 //! objects out of words that may have changed since, or tell which object changed.
 //!
+//! `Places::of_bits` takes bits of the caller's own with no look at the words: of which objects are marked, and which
+//! words are theirs. Then the slide asks what a survey asks, and whatever it lets through loses nothing, whoever marked.
+//! `Looks` is such a marking, of objects that are handed in one by one while threads write: if each object that was
+//! written to is looked at again, no part that slides is refused.
+//!
 //! A root that is not handed in is lost. The addresses before and after a collection are numbers of one range, so one
 //! that was kept elsewhere, or is forwarded twice, may be that of another object. During a call no other thread may
 //! write to the words, the roots or the memory into which they slide.
@@ -19,15 +24,22 @@
 mod bits;
 mod collecting;
 mod collecting_lent;
+mod ephemerons;
 mod fault;
 mod finding;
 mod forwarding;
 mod found;
+mod given;
+mod growing;
+mod guarding;
 mod in_place;
 mod kept;
 mod laws;
 mod lending;
 mod live_bits;
+mod looking_at;
+mod looking_rows;
+mod looks;
 mod making;
 mod marking;
 mod marks;
@@ -35,29 +47,38 @@ mod meeting;
 mod offsets;
 mod places;
 mod rounds;
+mod runs;
 mod shape;
 mod sliding;
 mod sliding_down;
+mod starts;
 mod survey;
 mod survey_by_threads;
 mod tables;
 #[cfg(test)]
 mod tests;
 mod threads;
+mod tidied;
 mod trying;
 
 pub use collecting::collect;
 pub use collecting_lent::collect_lent;
 pub use fault::{
-    CollectFault, CollectLentFault, LentFault, MarksFault, MarksLentFault, SlideFault, SurveyFault,
+    BitsFault, ByBitsFault, CollectFault, CollectLentFault, FinishFault, LentFault, LookFault,
+    MarksFault, MarksLentFault, MeetFault, SlideFault, SurveyFault,
 };
+pub use given::{collect_by_bits, slid_is_sound};
+pub use growing::{Growing, NotGrown};
+pub use guarding::{Guarded, survey_guarded};
 pub use in_place::{collect_in_place, collect_in_place_lent};
 pub use laws::{
     accepted_is_sound, collected_is_accepted, collected_is_one, collected_is_reached,
     collected_is_slid, found_has_no_fault, led_is_settled, parts_are_whole, reached_is_marked,
     reached_is_one, sound_has_no_fault, words_now_are_settled,
 };
+pub use looks::{Looks, clean_is_same, same_is_looked};
 pub use places::Places;
 pub use survey::Survey;
 pub use tables::{NotSurveyed, NotTaken, Tables};
 pub use threads::collect_by_threads;
+pub use tidied::slid_is_tidied;

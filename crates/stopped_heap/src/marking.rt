@@ -5,7 +5,8 @@ ghost use Rattle.heap_layout.specs.Header.{refs_of, weak_of, size_of};
 ghost use Rattle.heap_layout.specs.Heap.{header_at, object_at, IsPlaced};
 ghost use Rattle.heap_layout.specs.Limits.{most_words, most_roots};
 ghost use Rattle.stopped_heap.specs.Reached.{IsReachedFrom, IsFaultOf, IsWordOf};
-ghost use Rattle.stopped_heap.specs.Meeting.{AllLead, IsDone, AreApart};
+ghost use Rattle.stopped_heap.specs.Meeting.{AllLead, AreMet, AreOnce, IsDone, AreApart};
+ghost use Rattle.stopped_heap.specs.Growing.{roots_on, IsBegun, IsMoreFaultOf};
 ghost use Rattle.stopped_heap.specs.declared.fault.SurveyFault.TheVariants as survey;
 
 use crate::bits::take_run;
@@ -126,6 +127,42 @@ pub(crate) fn mark_with(
     ensures short { IfErr result (λ fault. fault ≡ survey.OutOfMemory → vec_capacity queue.old < length words.now) }
     ensures capacity { vec_capacity queue.old ≤ vec_capacity queue.new }
 {
+    if let Err(fault) = mark_on(edition, words, roots, heads, bits, queue) {
+        return Err(fault);
+    }
+    Ok(())
+}
+
+/// The same where objects were marked before, and more are now, from these roots. The queue has those that were marked,
+/// and after them those that are met now. Of those before no reference is followed again, and no word is looked at.
+pub(crate) fn mark_on(
+    edition: Edition,
+    words: &[u64],
+    roots: &[u64],
+    heads: &mut [u64],
+    bits: &mut [u64],
+    queue: &mut Vec<u32>,
+) -> Result<(), SurveyFault>
+    requires few { length words.now ≤ 2 ^ 31 }
+    requires sizes { (length words.now ≤ most_words edition) × (length roots.now ≤ most_roots edition) }
+    requires few_bits { length heads.old ≤ 2 ^ 25 }
+    requires room { length words.now ≤ 64 * length heads.old }
+    requires long { length bits.old ≡ length heads.old }
+    requires begun { IsBegun edition words.now queue.old.items heads.old bits.old }
+    ensures reached { OnOk result ((i : ℕ) → bit heads.new i ≡ true → IsReachedFrom edition words.now (roots_on queue.old.items roots.now) i) }
+    ensures all { OnOk result ((i : ℕ) → IsReachedFrom edition words.now (roots_on queue.old.items roots.now) i → bit heads.new i ≡ true) }
+    ensures done { OnOk result ((i : ℕ) → bit heads.new i ≡ true → IsDone edition words.now bits.new i) }
+    ensures only { OnOk result ((j : ℕ) → bit bits.new j ≡ true → (i : ℕ) × (bit heads.new i ≡ true) × IsWordOf edition words.now i j) }
+    ensures apart { OnOk result (AreApart edition words.now heads.new) }
+    ensures roots { OnOk result (AllLead edition (length words.now) roots.now) }
+    ensures fault { IfErr result (IsMoreFaultOf edition words.now queue.old.items roots.now) }
+    ensures same { length heads.new ≡ length heads.old }
+    ensures long { length bits.new ≡ length bits.old }
+    ensures short { IfErr result (λ fault. fault ≡ survey.OutOfMemory → vec_capacity queue.old < length words.now) }
+    ensures capacity { vec_capacity queue.old ≤ vec_capacity queue.new }
+    ensures met { OnOk result (AreMet queue.new.items heads.new) }
+    ensures once { OnOk result (AreOnce (length words.now) queue.new.items) }
+{
     // Each arm is compiled for its edition.
     match edition {
         Edition::One => mark_by(edition, words, roots, heads, bits, queue),
@@ -150,28 +187,28 @@ fn mark_by(
     requires few_bits { length heads.old ≤ 2 ^ 25 }
     requires room { length words.now ≤ 64 * length heads.old }
     requires long { length bits.old ≡ length heads.old }
-    requires no_heads { (i : ℕ) → bit heads.old i ≡ false }
-    requires no_bits { (i : ℕ) → bit bits.old i ≡ false }
-    requires empty { queue.old.items ≡ [] }
-    ensures reached { OnOk result ((i : ℕ) → bit heads.new i ≡ true → IsReachedFrom edition words.now roots.now i) }
-    ensures all { OnOk result ((i : ℕ) → IsReachedFrom edition words.now roots.now i → bit heads.new i ≡ true) }
+    requires begun { IsBegun edition words.now queue.old.items heads.old bits.old }
+    ensures reached { OnOk result ((i : ℕ) → bit heads.new i ≡ true → IsReachedFrom edition words.now (roots_on queue.old.items roots.now) i) }
+    ensures all { OnOk result ((i : ℕ) → IsReachedFrom edition words.now (roots_on queue.old.items roots.now) i → bit heads.new i ≡ true) }
     ensures done { OnOk result ((i : ℕ) → bit heads.new i ≡ true → IsDone edition words.now bits.new i) }
     ensures only { OnOk result ((j : ℕ) → bit bits.new j ≡ true → (i : ℕ) × (bit heads.new i ≡ true) × IsWordOf edition words.now i j) }
     ensures apart { OnOk result (AreApart edition words.now heads.new) }
     ensures roots { OnOk result (AllLead edition (length words.now) roots.now) }
-    ensures fault { IfErr result (IsFaultOf edition words.now roots.now) }
+    ensures fault { IfErr result (IsMoreFaultOf edition words.now queue.old.items roots.now) }
     ensures same { length heads.new ≡ length heads.old }
     ensures long { length bits.new ≡ length bits.old }
     ensures short { IfErr result (λ fault. fault ≡ survey.OutOfMemory → vec_capacity queue.old < length words.now) }
     ensures capacity { vec_capacity queue.old ≤ vec_capacity queue.new }
+    ensures met { OnOk result (AreMet queue.new.items heads.new) }
+    ensures once { OnOk result (AreOnce (length words.now) queue.new.items) }
 {
     let count = words.len();
+    let mut next = queue.len();
     match meet_all(edition, count, heads, queue, roots) {
         Ok(()) => {}
         Err(Stop::Memory) => return Err(SurveyFault::OutOfMemory),
         Err(Stop::Stray(k)) => return Err(SurveyFault::BadRoot(k as u64)),
     }
-    let mut next = 0;
     while next < queue.len() {
         let i = queue[next] as usize;
         if next + AHEAD < queue.len() {

@@ -2,7 +2,7 @@
 ghost use Rattle.std.specs.Prelude.{◌≡◌, ◌≢◌, ℕ, ◌+◌, ◌*◌, ◌^◌, ◌<◌, ◌≤◌, true, false, List, length, slice_index, IfErr, OnOk};
 ghost use Rattle.heap_layout.specs.Bits.{bit, leads};
 ghost use Rattle.heap_layout.specs.Values.{or_immediate};
-ghost use Rattle.stopped_heap.specs.Marks.{IsMarksFaultOf, AllKept, IsKept, AreBefore};
+ghost use Rattle.stopped_heap.specs.Marks.{IsMarkingFaultOf, AllKept, IsKept, AreBefore};
 ghost use Rattle.stopped_heap.specs.Meeting.{AreApart};
 ghost use Rattle.stopped_heap.specs.Reached.{IsWordOf};
 ghost use Rattle.stopped_heap.specs.declared.fault.MarksFault.TheVariants as refusal;
@@ -64,7 +64,7 @@ fn take_mark(
     ensures inside { OnOk result ((j : ℕ) → IsWordOf edition words.now i j → bit bits.new j ≡ true) }
     ensures stay { OnOk result ((j : ℕ) → bit bits.old j ≡ true → bit bits.new j ≡ true) }
     ensures before { OnOk result (AreBefore edition words.now heads.now (i + 1) bits.new) }
-    ensures fault { IfErr result (λ fault. (roots : List ℕ) → IsMarksFaultOf edition words.now roots heads.now fault) }
+    ensures fault { IfErr result (λ fault. (roots : List ℕ) → IsMarkingFaultOf edition words.now roots heads.now fault) }
     ensures never { IfErr result (λ fault. fault ≢ refusal.OutOfMemory) }
     ensures long { length bits.new ≡ length bits.old }
 {
@@ -109,7 +109,7 @@ pub(crate) fn take_marks(
     ensures run { OnOk result ((i j : ℕ) → bit heads.now i ≡ true → IsWordOf edition words.now i j → bit bits.new j ≡ true) }
     ensures only { OnOk result ((j : ℕ) → bit bits.new j ≡ true → (i : ℕ) × (bit heads.now i ≡ true) × IsWordOf edition words.now i j) }
     ensures apart { OnOk result (AreApart edition words.now heads.now) }
-    ensures fault { IfErr result (λ fault. (roots : List ℕ) → IsMarksFaultOf edition words.now roots heads.now fault) }
+    ensures fault { IfErr result (λ fault. (roots : List ℕ) → IsMarkingFaultOf edition words.now roots heads.now fault) }
     ensures never { IfErr result (λ fault. fault ≢ refusal.OutOfMemory) }
     ensures long { length bits.new ≡ length bits.old }
 {

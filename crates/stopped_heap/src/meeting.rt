@@ -1,9 +1,9 @@
 //! The queue of the objects that were met, in the order in which they were met. Each is there once: its bit is set when
 //! it is met.
-ghost use Rattle.std.specs.Prelude.{◌≡◌, ◌*◌, ◌^◌, ◌<◌, ◌≤◌, fold, length, true, false, slice_index, vec_capacity, IfErr, OnOk};
+ghost use Rattle.std.specs.Prelude.{◌≡◌, ◌*◌, ◌^◌, ◌<◌, ◌≤◌, [], ◌∷◌, fold, length, true, false, slice_index, vec_capacity, IfErr, OnOk};
 ghost use Rattle.reachability.specs.Queue.{after_word};
 ghost use Rattle.stopped_heap.specs.Reached.{is_below, is_within};
-ghost use Rattle.stopped_heap.specs.Meeting.{AllLead, AreMet, AreOnce, IsShort, IsStopAt, IsStop};
+ghost use Rattle.stopped_heap.specs.Meeting.{AllLead, AreMet, AreOnce, IsMore, IsShort, IsStopAt, IsStop};
 
 use heap_layout::{Edition, FROM_SPACE, is_set, set};
 
@@ -37,6 +37,7 @@ fn meet(
     ensures leads { OnOk result (is_within edition count word ≡ true) }
     ensures stop { IfErr result (IsStopAt edition count word k) }
     ensures short { IfErr result (IsShort count (vec_capacity queue.old)) }
+    ensures more { IfErr result (IsMore count queue.old.items (word ∷ [])) }
     ensures length { length met.new ≡ length met.old }
     ensures capacity { vec_capacity queue.old ≤ vec_capacity queue.new }
 {
@@ -78,6 +79,7 @@ pub(crate) fn meet_all(
     ensures leads { OnOk result (AllLead edition count words.now) }
     ensures stop { IfErr result (IsStop edition count words.now) }
     ensures short { IfErr result (IsShort count (vec_capacity queue.old)) }
+    ensures more { IfErr result (IsMore count queue.old.items words.now) }
     ensures length { length met.new ≡ length met.old }
     ensures capacity { vec_capacity queue.old ≤ vec_capacity queue.new }
 {
@@ -87,9 +89,9 @@ pub(crate) fn meet_all(
     Ok(())
 }
 
-// Whether a word is null, the address of one of `count` words, or an immediate.
+/// Whether a word is null, the address of one of `count` words, or an immediate.
 #[inline(always)]
-fn is_leading(edition: Edition, count: usize, word: u64) -> bool
+pub(crate) fn is_leading(edition: Edition, count: usize, word: u64) -> bool
     requires { count ≤ 2 ^ 31 }
     ensures { result ≡ is_within edition count word }
 {

@@ -24,12 +24,14 @@ pub struct Places {
     pub(crate) heads: Vec<u64>,
     pub(crate) bits: Vec<u64>,
     pub(crate) counts: Vec<u32>,
+    pub(crate) starts: Vec<u32>,
     pub(crate) queue: Vec<u32>,
 }
 
 impl Model for Places {
-    ghost use Rattle.std.specs.Prelude.{vec_capacity};
+    ghost use Rattle.std.specs.Prelude.{◌*◌, ◌≤◌, vec_capacity};
     ghost use Rattle.stopped_heap.specs.Places.{found_in, AreTablesOf, Found};
+    ghost use Rattle.stopped_heap.specs.Starts.{AreStarts};
     ghost use Rattle.stopped_heap.specs.Tables.{HaveRoom};
 
     ghost Value = { Found };
@@ -37,7 +39,8 @@ impl Model for Places {
     ghost view = { λ places. found_in places.edition places.count places.heads.items places.bits.items places.room };
 
     ghost invariant = { λ places. AreTablesOf places.edition places.count places.heads.items places.bits.items places.counts.items
-        × HaveRoom places.room (vec_capacity places.heads) (vec_capacity places.bits) (vec_capacity places.counts) (vec_capacity places.queue) };
+        × HaveRoom places.room (vec_capacity places.heads) (vec_capacity places.bits) (vec_capacity places.counts) (vec_capacity places.queue)
+        × AreStarts places.heads.items places.starts.items × (places.room ≤ 64 * vec_capacity places.starts) };
 }
 
 impl Places {
@@ -77,6 +80,7 @@ impl Places {
             &self.heads,
             &self.bits,
             &self.counts,
+            &self.starts,
             first,
             part,
         )
@@ -118,6 +122,7 @@ impl Places {
             heads,
             bits,
             counts,
+            starts,
             queue,
         } = self;
         Tables {
@@ -125,6 +130,7 @@ impl Places {
             heads,
             bits,
             counts,
+            starts,
             queue,
         }
     }

@@ -5,6 +5,7 @@ ghost use Rattle.heap_layout.specs.Header.{refs_of, weak_of, size_of};
 ghost use Rattle.heap_layout.specs.Heap.{header_at, live, object_at};
 ghost use Rattle.mark_tables.specs.MarkBitmap.{set_bits};
 ghost use Rattle.stopped_heap.specs.Settled.{settled, settled_words};
+ghost use Rattle.stopped_heap.specs.Starts.{AreStarts};
 ghost use Rattle.stopped_heap.specs.Surveys.{told, AreTables};
 
 use crate::finding::{last_head, next_set};
@@ -80,20 +81,22 @@ pub(crate) fn slide_part(
     heads: &[u64],
     bits: &[u64],
     counts: &[u32],
+    starts: &[u32],
     first: u64,
     part: &mut [u64],
 )
     requires tables { AreTables edition words.now heads.now bits.now counts.now }
+    requires starts { AreStarts heads.now starts.now }
     requires inside { first + length part.old ≤ length (set_bits bits.now) }
     ensures words { (j : ℕ) → j < length part.old → slice_index part.new j ≡ slice_index (settled_words (live (told edition words.now heads.now))) (first + j) }
     ensures length { length part.new ≡ length part.old }
 {
     // Each arm is compiled for its edition.
     match edition {
-        Edition::One => slide_run(edition, words, heads, bits, counts, first, part),
-        Edition::Two => slide_run(edition, words, heads, bits, counts, first, part),
-        Edition::Three => slide_run(edition, words, heads, bits, counts, first, part),
-        Edition::Four => slide_run(edition, words, heads, bits, counts, first, part),
+        Edition::One => slide_run(edition, words, heads, bits, counts, starts, first, part),
+        Edition::Two => slide_run(edition, words, heads, bits, counts, starts, first, part),
+        Edition::Three => slide_run(edition, words, heads, bits, counts, starts, first, part),
+        Edition::Four => slide_run(edition, words, heads, bits, counts, starts, first, part),
     }
 }
 
@@ -105,10 +108,12 @@ fn slide_run(
     heads: &[u64],
     bits: &[u64],
     counts: &[u32],
+    starts: &[u32],
     first: u64,
     part: &mut [u64],
 )
     requires tables { AreTables edition words.now heads.now bits.now counts.now }
+    requires starts { AreStarts heads.now starts.now }
     requires inside { first + length part.old ≤ length (set_bits bits.now) }
     ensures words { (j : ℕ) → j < length part.old → slice_index part.new j ≡ slice_index (settled_words (live (told edition words.now heads.now))) (first + j) }
     ensures length { length part.new ≡ length part.old }
@@ -117,7 +122,7 @@ fn slide_run(
         return;
     }
     let end = first as usize + part.len();
-    let mut next = last_head(heads, bits, counts, first);
+    let mut next = last_head(heads, bits, counts, starts, first);
     let mut place = below(bits, counts, next) as usize;
     while place < end {
         let start = next_set(heads, next);

@@ -1,5 +1,5 @@
 //! What the roots reach, and where it slides.
-ghost use Rattle.std.specs.Prelude.{◌≡◌, ℕ, ◌+◌, ◌<◌, ◌≤◌, false, true, length, drop, map, take, slice_index, All, IfErr, IfOk, OnErr, OnOk};
+ghost use Rattle.std.specs.Prelude.{◌≡◌, ℕ, ◌+◌, ◌/◌, ◌<◌, ◌≤◌, false, true, length, drop, map, take, slice_index, All, IfErr, IfOk, OnErr, OnOk};
 ghost use Rattle.std.specs.Option.{option_map};
 ghost use Rattle.heap_layout.specs.Heap.{live, is_value, IsValue};
 ghost use Rattle.page_plan.specs.Sliding.{forward_value, live_words};
@@ -18,13 +18,14 @@ use crate::marks::{check_kept, take_marks};
 use crate::offsets::offsets;
 use crate::places::Places;
 use crate::sliding::slide_part;
+use crate::starts::{put_starts, starts_of};
 use crate::tables::{NotSurveyed, NotTaken, Tables};
 use heap_layout::{Edition, FROM_SPACE};
 use std::alloc::Global;
 use std::marker::Model;
 
 /// What the roots of a heap reach, and where it slides. It borrows the words of the heap, so that nothing is written
-/// there as long as it lives: what was found is so for all its calls. Beside them it keeps two bits a word, and 4
+/// there as long as it lives: what was found is so for all its calls. Beside them it keeps two bits a word, and 8
 /// bytes for each 64 words. Contracts see the edition, the words, the indices of the live objects as `marks`, and the
 /// room of its tables; `heap_of` is the heap of these with no roots.
 #[derive(Drop)]
@@ -35,11 +36,13 @@ pub struct Survey<'w> {
     pub(crate) heads: Vec<u64>,
     pub(crate) bits: Vec<u64>,
     pub(crate) counts: Vec<u32>,
+    pub(crate) starts: Vec<u32>,
     pub(crate) queue: Vec<u32>,
 }
 
 impl<'w> Model for Survey<'w> {
-    ghost use Rattle.std.specs.Prelude.{vec_capacity};
+    ghost use Rattle.std.specs.Prelude.{◌*◌, ◌≤◌, vec_capacity};
+    ghost use Rattle.stopped_heap.specs.Starts.{AreStarts};
     ghost use Rattle.stopped_heap.specs.Surveys.{surveyed, Surveyed, AreTables};
     ghost use Rattle.stopped_heap.specs.Tables.{HaveRoom};
 
@@ -48,13 +51,14 @@ impl<'w> Model for Survey<'w> {
     ghost view = { λ survey. surveyed survey.edition survey.words.now survey.heads.items survey.room };
 
     ghost invariant = { λ survey. AreTables survey.edition survey.words.now survey.heads.items survey.bits.items survey.counts.items
-        × HaveRoom survey.room (vec_capacity survey.heads) (vec_capacity survey.bits) (vec_capacity survey.counts) (vec_capacity survey.queue) };
+        × HaveRoom survey.room (vec_capacity survey.heads) (vec_capacity survey.bits) (vec_capacity survey.counts) (vec_capacity survey.queue)
+        × AreStarts survey.heads.items survey.starts.items × (survey.room ≤ 64 * vec_capacity survey.starts) };
 }
 
 impl<'w> Survey<'w> {
     /// Surveys the heap of these words and roots: finds what the roots reach, and where it slides. It looks at no word
-    /// that is not in a reached object, and costs by what is reached, and by some bits a word. Err with a fault that is
-    /// there, or with `OutOfMemory`.
+    /// that is not in a reached object, and costs by what is reached, and by some bits a word. Err with `TooLarge` if
+    /// there are too many words or roots for the edition; if not, with a fault that is there, or with `OutOfMemory`.
     pub fn of(
         alloc: Global,
         edition: Edition,
@@ -65,6 +69,7 @@ impl<'w> Survey<'w> {
         ensures sound { IfOk result (λ survey. IsSound (with_roots survey roots.now)) }
         ensures words { IfOk result (λ survey. survey.words ≡ words.now) }
         ensures edition { IfOk result (λ survey. survey.edition ≡ edition) }
+        ensures room { IfOk result (λ survey. survey.room ≡ 0) }
         ensures fault { IfErr result (IsFaultOf edition words.now roots.now) }
     {
         let Found {
@@ -72,6 +77,7 @@ impl<'w> Survey<'w> {
             bits,
             counts,
         } = tables_of(alloc, edition, words, roots)?;
+        let starts = starts_of(alloc, &heads)?;
         Ok(Survey {
             edition,
             words,
@@ -79,6 +85,7 @@ impl<'w> Survey<'w> {
             heads,
             bits,
             counts,
+            starts,
             queue: Vec::new(alloc),
         })
     }
@@ -98,6 +105,7 @@ impl<'w> Survey<'w> {
         ensures words { IfOk result (λ survey. survey.words ≡ words.now) }
         ensures edition { IfOk result (λ survey. survey.edition ≡ edition) }
         ensures room { IfOk result (λ survey. survey.room ≡ tables.room) }
+        ensures fits { IfOk result (λ _. length words.now ≤ tables.room) }
         ensures fault { IfErr result (λ refused. IsLentFaultOf edition words.now roots.now tables.room refused.fault) }
         ensures back { IfErr result (λ refused. refused.tables.room ≡ tables.room) }
     {
@@ -114,6 +122,7 @@ impl<'w> Survey<'w> {
             mut heads,
             mut bits,
             mut counts,
+            mut starts,
             mut queue,
         } = tables;
         let filled = fill(
@@ -131,11 +140,13 @@ impl<'w> Survey<'w> {
                 heads,
                 bits,
                 counts,
+                starts,
                 queue,
             };
             let fault = LentFault::Survey(fault);
             return Err(NotSurveyed { fault, tables });
         }
+        put_starts(&heads, &mut starts);
         Ok(Survey {
             edition,
             words,
@@ -143,6 +154,7 @@ impl<'w> Survey<'w> {
             heads,
             bits,
             counts,
+            starts,
             queue,
         })
     }
@@ -159,6 +171,7 @@ impl<'w> Survey<'w> {
             heads,
             bits,
             counts,
+            starts,
             queue,
         } = self;
         Places {
@@ -168,6 +181,7 @@ impl<'w> Survey<'w> {
             heads,
             bits,
             counts,
+            starts,
             queue,
         }
     }
@@ -181,9 +195,10 @@ impl<'w> Survey<'w> {
     }
 
     /// Surveys the heap of these words and roots by marks of the caller's own: its marked objects are those at the set
-    /// bits of `marks`, one bit for each word. It looks at no word that is not in a marked object. Err with a fault
-    /// that is there, or with `OutOfMemory`: each root, and each reference of a marked object, must lead to a marked
-    /// object, so that nothing that the roots reach is lost.
+    /// bits of `marks`, one bit for each word. It looks at no word that is not in a marked object. Err if the words or
+    /// roots are too many for the edition; if not, with `WrongLength`, if there is not one block of bits for each 64
+    /// words; and if not, with a fault that is there, or with `OutOfMemory`: each root, and each reference of a marked
+    /// object, must lead to a marked object, so that nothing that the roots reach is lost.
     pub fn of_marks(
         alloc: Global,
         edition: Edition,
@@ -195,6 +210,8 @@ impl<'w> Survey<'w> {
         ensures sound { IfOk result (λ survey. IsSound (with_roots survey roots.now)) }
         ensures words { IfOk result (λ survey. survey.words ≡ words.now) }
         ensures edition { IfOk result (λ survey. survey.edition ≡ edition) }
+        ensures long { IfOk result (λ _. length marks.now ≡ (length words.now + 63) / 64) }
+        ensures room { IfOk result (λ survey. survey.room ≡ 0) }
         ensures fault { IfErr result (IsMarksFaultOf edition words.now roots.now marks.now) }
     {
         if words.len() > edition.max_words() || roots.len() > edition.max_roots() {
@@ -213,6 +230,7 @@ impl<'w> Survey<'w> {
         }
         let heads = Vec::from_slice(alloc, marks)?;
         let counts = offsets(alloc, &bits)?;
+        let starts = starts_of(alloc, marks)?;
         Ok(Survey {
             edition,
             words,
@@ -220,13 +238,15 @@ impl<'w> Survey<'w> {
             heads,
             bits,
             counts,
+            starts,
             queue: Vec::new(alloc),
         })
     }
 
     /// The same in tables that were made before, with no allocation, so that `OutOfMemory` never comes. Err if the
-    /// words or roots are too many for the edition; if not, if the tables have room for fewer words; and if not, with a
-    /// fault of the words, the roots or the marks. The tables come back with the fault, with the room that they had.
+    /// words or roots are too many for the edition; if not, if the tables have room for fewer words; if not, with
+    /// `WrongLength`; and if not, with a fault of the words, the roots or the marks. The tables come back with the fault,
+    /// with the room that they had.
     pub fn of_marks_lent(
         tables: Tables,
         edition: Edition,
@@ -238,7 +258,9 @@ impl<'w> Survey<'w> {
         ensures sound { IfOk result (λ survey. IsSound (with_roots survey roots.now)) }
         ensures words { IfOk result (λ survey. survey.words ≡ words.now) }
         ensures edition { IfOk result (λ survey. survey.edition ≡ edition) }
+        ensures long { IfOk result (λ _. length marks.now ≡ (length words.now + 63) / 64) }
         ensures room { IfOk result (λ survey. survey.room ≡ tables.room) }
+        ensures fits { IfOk result (λ _. length words.now ≤ tables.room) }
         ensures fault { IfErr result (λ refused. IsMarksLentFaultOf edition words.now roots.now marks.now tables.room refused.fault) }
         ensures back { IfErr result (λ refused. refused.tables.room ≡ tables.room) }
     {
@@ -259,6 +281,7 @@ impl<'w> Survey<'w> {
             mut heads,
             mut bits,
             mut counts,
+            mut starts,
             queue,
         } = tables;
         let filled = fill_by_marks(
@@ -276,11 +299,13 @@ impl<'w> Survey<'w> {
                 heads,
                 bits,
                 counts,
+                starts,
                 queue,
             };
             let fault = MarksLentFault::Marks(fault);
             return Err(NotTaken { fault, tables });
         }
+        put_starts(marks, &mut starts);
         Ok(Survey {
             edition,
             words,
@@ -288,6 +313,7 @@ impl<'w> Survey<'w> {
             heads,
             bits,
             counts,
+            starts,
             queue,
         })
     }
@@ -325,6 +351,7 @@ impl<'w> Survey<'w> {
             &self.heads,
             &self.bits,
             &self.counts,
+            &self.starts,
             first,
             part,
         );

@@ -6,6 +6,7 @@ ghost use Rattle.stopped_heap.specs.Surveys.{with_roots};
 use crate::fault::SurveyFault;
 use crate::offsets::offsets;
 use crate::rounds::{MAX_WORKERS, mark_by_threads};
+use crate::starts::starts_of;
 use crate::survey::Survey;
 use heap_layout::Edition;
 use std::alloc::{AllocError, Global};
@@ -45,6 +46,7 @@ impl<'w> Survey<'w> {
         ensures sound { IfOk result (λ survey. IsSound (with_roots survey roots.now)) }
         ensures words { IfOk result (λ survey. survey.words ≡ words.now) }
         ensures edition { IfOk result (λ survey. survey.edition ≡ edition) }
+        ensures room { IfOk result (λ survey. survey.room ≡ 0) }
         ensures fault { IfErr result (IsFaultOf edition words.now roots.now) }
     {
         if workers > 1 && words.len() >= LONG {
@@ -75,6 +77,7 @@ impl<'w> Survey<'w> {
         ensures sound { IfOk result (λ survey. IsSound (with_roots survey roots.now)) }
         ensures words { IfOk result (λ survey. survey.words ≡ words.now) }
         ensures edition { IfOk result (λ survey. survey.edition ≡ edition) }
+        ensures room { IfOk result (λ survey. survey.room ≡ 0) }
     {
         if words.len() > edition.max_words() || roots.len() > edition.max_roots() {
             return Err(AllocError);
@@ -86,6 +89,7 @@ impl<'w> Survey<'w> {
             alloc, rt, workers, wide, near, edition, words, roots, &mut heads, &mut bits,
         )?;
         let counts = offsets(alloc, &bits)?;
+        let starts = starts_of(alloc, &heads)?;
         Ok(Survey {
             edition,
             words,
@@ -93,6 +97,7 @@ impl<'w> Survey<'w> {
             heads,
             bits,
             counts,
+            starts,
             queue: Vec::new(alloc),
         })
     }

@@ -5,7 +5,7 @@ use crate::fault::{LentFault, MarksLentFault};
 use std::alloc::{AllocError, Global};
 use std::marker::Model;
 
-/// Room for the tables of a survey, so that it allocates nothing: two bits for each word, 4 bytes for each 64 words,
+/// Room for the tables of a survey, so that it allocates nothing: two bits for each word, 8 bytes for each 64 words,
 /// and a queue of 4 bytes for each word. They may be used again and again, for any heap that is not larger. Contracts
 /// see `room`, the number of words of the largest one.
 #[derive(Drop)]
@@ -14,18 +14,20 @@ pub struct Tables {
     pub(crate) heads: Vec<u64>,
     pub(crate) bits: Vec<u64>,
     pub(crate) counts: Vec<u32>,
+    pub(crate) starts: Vec<u32>,
     pub(crate) queue: Vec<u32>,
 }
 
 impl Model for Tables {
-    ghost use Rattle.std.specs.Prelude.{vec_capacity};
+    ghost use Rattle.std.specs.Prelude.{◌*◌, ◌≤◌, vec_capacity};
     ghost use Rattle.stopped_heap.specs.Tables.{Reserved, HaveRoom};
 
     ghost Value = { Reserved };
 
     ghost view = { λ tables. record { room = tables.room } };
 
-    ghost invariant = { λ tables. HaveRoom tables.room (vec_capacity tables.heads) (vec_capacity tables.bits) (vec_capacity tables.counts) (vec_capacity tables.queue) };
+    ghost invariant = { λ tables. HaveRoom tables.room (vec_capacity tables.heads) (vec_capacity tables.bits) (vec_capacity tables.counts) (vec_capacity tables.queue)
+        × (tables.room ≤ 64 * vec_capacity tables.starts) };
 }
 
 /// The tables that were lent, and why the heap is not surveyed by them.
@@ -56,6 +58,7 @@ impl Tables {
             heads: Vec::with_capacity(alloc, blocks)?,
             bits: Vec::with_capacity(alloc, blocks)?,
             counts: Vec::with_capacity(alloc, blocks + 1)?,
+            starts: Vec::with_capacity(alloc, blocks)?,
             queue: Vec::with_capacity(alloc, words)?,
         })
     }

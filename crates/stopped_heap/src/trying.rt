@@ -1,12 +1,14 @@
 //! Slides live objects out of words that may be others than those that were surveyed.
-ghost use Rattle.std.specs.Prelude.{◌≡◌, ℕ, ◌*◌, ◌<◌, ◌^◌, ◌≤◌, ◌+◌, false, true, length, slice_index, IfErr, OnOk};
+ghost use Rattle.std.specs.Prelude.{◌≡◌, ◌≢◌, ℕ, ◌*◌, ◌<◌, ◌^◌, ◌≤◌, ◌+◌, false, true, List, length, slice_index, IfErr, IfNone, IfSome, OnOk};
+ghost use Rattle.heap_layout.specs.declared.edition.Edition.{Edition};
 ghost use Rattle.heap_layout.specs.Bits.{bit};
 ghost use Rattle.heap_layout.specs.Header.{refs_of, weak_of, size_of};
 ghost use Rattle.heap_layout.specs.Heap.{header_at, is_value, object_at, IsPlaced, IsValue};
 ghost use Rattle.mark_tables.specs.MarkBitmap.{set_bits, AreOffsets};
 ghost use Rattle.mark_tables.specs.LiveWords.{live_below};
 ghost use Rattle.stopped_heap.specs.Places.{found_in, led_by, led_words, words_now, AreTablesOf, IsAsFound, IsSlideFault};
-ghost use Rattle.stopped_heap.specs.Surveys.{marks_of};
+ghost use Rattle.stopped_heap.specs.Starts.{AreStarts};
+ghost use Rattle.stopped_heap.specs.Surveys.{marks_of, AreTables};
 
 use crate::fault::SlideFault;
 use crate::finding::{last_head, next_set};
@@ -14,7 +16,8 @@ use crate::forwarding::{below, settled_weak};
 use crate::marks::leads_to;
 use crate::shape::{Shape, shape_of};
 use crate::sliding::copy_in;
-use heap_layout::Edition;
+use crate::starts::is_last_before;
+use heap_layout::{Edition, is_set};
 
 // Writes `count` words of the object at index `start` into the part, from its word `begin` on: those from the word
 // `from` of the object on, as they are after the collection. Err with the number of a word of the object that is a
@@ -108,6 +111,108 @@ fn all_below(bits: &[u64], counts: &[u32], i: usize) -> u64
     }
 }
 
+// Whether the object at `start`, which slides to `place`, had so many words when it was surveyed: so many live words are
+// there, none of them is the first word of another object, and the word behind them is not one more. Takes constant
+// time.
+#[inline(always)]
+fn had_size(
+    heads: &[u64],
+    bits: &[u64],
+    counts: &[u32],
+    starts: &[u32],
+    start: usize,
+    place: usize,
+    size: usize,
+) -> bool
+    requires offsets { AreOffsets bits.now counts.now }
+    requires starts { AreStarts heads.now starts.now }
+    requires same { length heads.now ≡ length bits.now }
+    requires head { bit heads.now start ≡ true }
+    requires place { place ≡ live_below (set_bits bits.now) start }
+    requires some { 0 < size }
+    ensures had { result ≡ true → (edition : Edition) (words : List ℕ) → AreTables edition words heads.now bits.now counts.now
+        → size ≡ size_of (header_at edition words start) }
+    ensures other { result ≡ false → (edition : Edition) (words : List ℕ) → AreTables edition words heads.now bits.now counts.now
+        → size ≢ size_of (header_at edition words start) }
+    ensures inside { result ≡ true → start + size ≤ 64 * length heads.now }
+{
+    let all = 64 * bits.len();
+    if size > all - start {
+        return false;
+    }
+    let end = start + size;
+    let live = all_below(bits, counts, end) as usize - place;
+    if live != size {
+        return false;
+    }
+    if !is_last_before(heads, starts, start, end) {
+        return false;
+    }
+    if end == all {
+        return true;
+    }
+    if !is_set(bits, end) {
+        return true;
+    }
+    is_set(heads, end)
+}
+
+// The index of an object, and of the slid word at which it starts.
+#[derive(Clone, Copy)]
+struct Next {
+    start: usize,
+    place: usize,
+}
+
+// What comes behind the object at `start`, which slides to `place`, if it had so many words when it was surveyed; None
+// if it had not. Where that slides to the slid word `end` or behind it, nobody looks for its index.
+#[inline(always)]
+fn next_behind(
+    heads: &[u64],
+    bits: &[u64],
+    counts: &[u32],
+    starts: &[u32],
+    start: usize,
+    place: usize,
+    size: usize,
+    end: usize,
+) -> Option<Next>
+    requires offsets { AreOffsets bits.now counts.now }
+    requires starts { AreStarts heads.now starts.now }
+    requires same { length heads.now ≡ length bits.now }
+    requires head { bit heads.now start ≡ true }
+    requires place { place ≡ live_below (set_bits bits.now) start }
+    requires some { 0 < size }
+    requires inside { place < end }
+    ensures had { IfSome result (λ next. (edition : Edition) (words : List ℕ) → AreTables edition words heads.now bits.now counts.now
+        → size ≡ size_of (header_at edition words start)) }
+    ensures place { IfSome result (λ next. next.place ≡ place + size) }
+    ensures from { IfSome result (λ next. next.place < end → start < next.start) }
+    ensures none { IfSome result (λ next. next.place < end → (j : ℕ) → start < j → j < next.start → bit heads.now j ≡ false) }
+    ensures here { IfSome result (λ next. next.place < end → next.start < 64 * length heads.now → bit heads.now next.start ≡ true) }
+    ensures other { IfNone result ((edition : Edition) (words : List ℕ) → AreTables edition words heads.now bits.now counts.now
+        → size ≢ size_of (header_at edition words start)) }
+{
+    if size >= end - place {
+        if !had_size(heads, bits, counts, starts, start, place, size) {
+            return None;
+        }
+        return Some(Next {
+            start,
+            place: place + size,
+        });
+    }
+    let next = head_behind(heads, start);
+    let next_place = all_below(bits, counts, next) as usize;
+    if size != next_place - place {
+        return None;
+    }
+    Some(Next {
+        start: next,
+        place: next_place,
+    })
+}
+
 /// Fills the part with the words of the live objects as they are now and slide, from the slid word `first` on. Err with
 /// a fault that is there; then the part has some of its words.
 pub(crate) fn try_slide_part(
@@ -116,10 +221,12 @@ pub(crate) fn try_slide_part(
     heads: &[u64],
     bits: &[u64],
     counts: &[u32],
+    starts: &[u32],
     first: u64,
     part: &mut [u64],
 ) -> Result<(), SlideFault>
     requires tables { AreTablesOf edition (length words.now) heads.now bits.now counts.now }
+    requires starts { AreStarts heads.now starts.now }
     requires inside { first + length part.old ≤ length (set_bits bits.now) }
     ensures words { OnOk result ((j : ℕ) → j < length part.old → slice_index part.new j ≡ slice_index (words_now (found_in edition (length words.now) heads.now bits.now 0) words.now) (first + j)) }
     ensures as_found { OnOk result ((room : ℕ) → IsAsFound (found_in edition (length words.now) heads.now bits.now room) words.now first (length part.old)) }
@@ -128,10 +235,10 @@ pub(crate) fn try_slide_part(
 {
     // Each arm is compiled for its edition.
     match edition {
-        Edition::One => try_slide_run(edition, words, heads, bits, counts, first, part),
-        Edition::Two => try_slide_run(edition, words, heads, bits, counts, first, part),
-        Edition::Three => try_slide_run(edition, words, heads, bits, counts, first, part),
-        Edition::Four => try_slide_run(edition, words, heads, bits, counts, first, part),
+        Edition::One => try_slide_run(edition, words, heads, bits, counts, starts, first, part),
+        Edition::Two => try_slide_run(edition, words, heads, bits, counts, starts, first, part),
+        Edition::Three => try_slide_run(edition, words, heads, bits, counts, starts, first, part),
+        Edition::Four => try_slide_run(edition, words, heads, bits, counts, starts, first, part),
     }
 }
 
@@ -143,10 +250,12 @@ fn try_slide_run(
     heads: &[u64],
     bits: &[u64],
     counts: &[u32],
+    starts: &[u32],
     first: u64,
     part: &mut [u64],
 ) -> Result<(), SlideFault>
     requires tables { AreTablesOf edition (length words.now) heads.now bits.now counts.now }
+    requires starts { AreStarts heads.now starts.now }
     requires inside { first + length part.old ≤ length (set_bits bits.now) }
     ensures words { OnOk result ((j : ℕ) → j < length part.old → slice_index part.new j ≡ slice_index (words_now (found_in edition (length words.now) heads.now bits.now 0) words.now) (first + j)) }
     ensures as_found { OnOk result ((room : ℕ) → IsAsFound (found_in edition (length words.now) heads.now bits.now room) words.now first (length part.old)) }
@@ -157,15 +266,14 @@ fn try_slide_run(
         return Ok(());
     }
     let end = first as usize + part.len();
-    let mut start = last_head(heads, bits, counts, first);
+    let mut start = last_head(heads, bits, counts, starts, first);
     let mut place = below(bits, counts, start) as usize;
     while place < end {
         let shape = shape_of(edition, words[start]);
-        let next = head_behind(heads, start);
-        let next_place = all_below(bits, counts, next) as usize;
-        if shape.size != next_place - place {
+        let behind = next_behind(heads, bits, counts, starts, start, place, shape.size, end);
+        let Some(next) = behind else {
             return Err(SlideFault::Changed(start as u64));
-        }
+        };
         let from = (first as usize).saturating_sub(place);
         let stop = shape.size.min(end - place);
         let begin = place + from - first as usize;
@@ -185,8 +293,8 @@ fn try_slide_run(
         if let Err(f) = tried {
             return Err(SlideFault::Unmarked((start + f) as u64));
         }
-        place = next_place;
-        start = next;
+        place = next.place;
+        start = next.start;
     }
     Ok(())
 }

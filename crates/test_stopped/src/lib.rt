@@ -21,10 +21,24 @@ mod drawn_surveys;
 #[cfg(test)]
 mod expected;
 #[cfg(test)]
+mod given_bits;
+#[cfg(test)]
+mod growing;
+#[cfg(test)]
+mod guarding;
+#[cfg(test)]
+mod long_objects;
+#[cfg(test)]
+mod looked_at;
+#[cfg(test)]
 mod often_by_threads;
 #[cfg(test)]
 mod plain_heap;
 #[cfg(test)]
+mod refused_looks;
+#[cfg(test)]
 mod refused_memory;
+#[cfg(test)]
+mod small_heaps;
 #[cfg(test)]
 mod worked_heaps;

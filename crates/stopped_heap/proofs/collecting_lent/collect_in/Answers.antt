@@ -39,8 +39,8 @@ returns-clause-collected c =
     let filled : part ≡ all = same_number_lists part all long_part (λ k lt.
     let at : 0 + k ≡ k = omega arith in
     c.slide_part.ensures.words k (omega (arith, lt, c.slide_part.ensures.length))
-    ∙ ap (λ (hs : List ℕ). get_or (settled_words (live (told e words hs))) (0 + k) 0) c.deref.ensures.value
+    ∙ ap (λ (hs : List ℕ). get_or (settled_words (live (told e words hs))) (0 + k) 0) c.deref-2.ensures.value
     ∙ ap (λ (n : ℕ). get_or all n 0) at) in
-    let forwarded = c.settle_all.ensures ∙ settled-seen e words heads bits counts c.deref-4.result.now c.deref-5.result.now (told e words heads) roots
-    found.tables c.deref-4.ensures.value c.deref-5.ensures.value refl in
+    let forwarded = c.settle_all.ensures ∙ settled-seen e words heads bits counts c.deref-6.result.now c.deref-7.result.now (told e words heads) roots
+    found.tables c.deref-6.ensures.value c.deref-7.ensures.value refl in
     is-collected (surveyed e words heads 0) e words roots refl refl found.reached found.sound c.from-live.result part c.args.to.now _ counted filled forwarded

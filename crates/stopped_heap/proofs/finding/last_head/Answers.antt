@@ -1,42 +1,40 @@
-use Rattle.std.proofs.Common.{ℕ, ◌+◌, ◌-◌, ◌*◌, sym, subst, ◌∙◌, arith}
-use Rattle.stopped_heap.proofs.Counts.{below-more}
-use Rattle.stopped_heap.proofs.Scanning.{IsLastBehind, IsNot, before-bit, before-block, behind-bit, behind-block}
+use Rattle.std.proofs.Common.{◌≡◌, ◌+◌, ◌-◌, ◌*◌, ◌<◌, length, refl, sym, subst, ◌∙◌, arith}
+use Rattle.stopped_heap.proofs.Starting.{IsLastFrom, IsNot, from-behind, from-bit, from-block, start-last}
 use Rattle.stopped_heap.proofs.finding.last_head.Goals as goal
-use Rattle.stopped_heap.proofs.finding.last_head.Goals.{then-heads-i-eq0, else-heads-i-eq0}
+
+pub returns-then-heads-b-eq0-clause-here : goal.returns-then-heads-b-eq0-clause-here
+returns-then-heads-b-eq0-clause-here c =
+    let b = c.block_of-b.result in
+    let known : b < length c.args.bits.now = omega (arith, c.block_of-b.ensures.known, c.requires.offsets.long) in
+    let last = from-block c.args.heads.now c.args.bits.now c.args.counts.now c.args.n b (64 * b) c.requires.offsets known c.block_of-b.ensures.above c.if-heads-b-eq0.true refl in
+    (start-last c.args.heads.now c.args.bits.now c.args.counts.now c.args.starts.now c.args.n b (64 * b) _ c.requires.offsets c.requires.starts c.requires.same known c.block_of-b.ensures.below
+    c.requires.some (omega arith) last refl).here
+
+pub returns-then-heads-b-eq0-clause-below : goal.returns-then-heads-b-eq0-clause-below
+returns-then-heads-b-eq0-clause-below c =
+    let b = c.block_of-b.result in
+    let known : b < length c.args.bits.now = omega (arith, c.block_of-b.ensures.known, c.requires.offsets.long) in
+    let last = from-block c.args.heads.now c.args.bits.now c.args.counts.now c.args.n b (64 * b) c.requires.offsets known c.block_of-b.ensures.above c.if-heads-b-eq0.true refl in
+    (start-last c.args.heads.now c.args.bits.now c.args.counts.now c.args.starts.now c.args.n b (64 * b) _ c.requires.offsets c.requires.starts c.requires.same known c.block_of-b.ensures.below
+    c.requires.some (omega arith) last refl).below
+
+pub returns-then-heads-b-eq0-clause-last : goal.returns-then-heads-b-eq0-clause-last
+returns-then-heads-b-eq0-clause-last c =
+    let b = c.block_of-b.result in
+    let known : b < length c.args.bits.now = omega (arith, c.block_of-b.ensures.known, c.requires.offsets.long) in
+    let last = from-block c.args.heads.now c.args.bits.now c.args.counts.now c.args.n b (64 * b) c.requires.offsets known c.block_of-b.ensures.above c.if-heads-b-eq0.true refl in
+    (start-last c.args.heads.now c.args.bits.now c.args.counts.now c.args.starts.now c.args.n b (64 * b) _ c.requires.offsets c.requires.starts c.requires.same known c.block_of-b.ensures.below
+    c.requires.some (omega arith) last refl).last
 
 pub loop-i-init : goal.loop-i-init
 loop-i-init c =
-    let bits = c.args.bits.now in
-    let b = c.block_of.result in
-    let offsets = c.requires.offsets in
-    let known = c.block_of.ensures.known in
+    let b = c.block_of-b.result in
+    let known : b < length c.args.bits.now = omega (arith, c.block_of-b.ensures.known, c.requires.offsets.long) in
     record {
-      known = omega (arith, known, offsets.long, c.requires.same);
-      last = λ j above set.
-          let before = offsets.before (b + 1) (omega (arith, known, offsets.long)) in
-          let more = below-more bits (64 * (b + 1)) j (omega (arith, above)) (omega (arith, known, offsets.long)) in
-          omega (arith, before, more, c.block_of.ensures.above);
+      low = omega arith;
+      high = omega arith;
+      last = from-behind c.args.heads.now c.args.bits.now c.args.counts.now c.args.n b (64 * b + 64) c.requires.offsets known c.block_of-b.ensures.above refl;
     }
-
-pub overflow_sub-i-in-loop-i : goal.overflow_sub-i-in-loop-i
-overflow_sub-i-in-loop-i c =
-    let heads = c.args.heads.now in
-    let i = c.loop-i.i in
-    let some = c.requires.some in
-    let fails : IsNot heads c.args.bits.now c.args.n i = sym c.is_at_most.ensures ∙ c.loop-i-test.true in
-    let low = before-bit heads c.args.bits.now c.args.n i some.0 (some.1, some.2) c.loop-i.invariant.last fails in
-    elim c.if-heads-i-eq0.branch [
-      | then-heads-i-eq0 w ↦ (let block = before-block heads i some.0 some.1 low w.if-heads-i-eq0.true in omega (arith, block, w.i-is))
-      | else-heads-i-eq0 w ↦ omega (arith, low, w.i-is)
-    ]
-
-pub loop-i-smaller : goal.loop-i-smaller
-loop-i-smaller c =
-    let some = overflow_sub-i-in-loop-i c in
-    elim c.if-heads-i-eq0.branch [
-      | then-heads-i-eq0 w ↦ omega (arith, some, w.i-is)
-      | else-heads-i-eq0 w ↦ omega (arith, some, w.i-is)
-    ]
 
 pub loop-i-preserved : goal.loop-i-preserved
 loop-i-preserved c =
@@ -44,14 +42,17 @@ loop-i-preserved c =
     let bits = c.args.bits.now in
     let n = c.args.n in
     let i = c.loop-i.i in
-    let fails : IsNot heads bits n i = sym c.is_at_most.ensures ∙ c.loop-i-test.true in
-    elim c.if-heads-i-eq0.branch [
-      | then-heads-i-eq0 w ↦ record {
-        known = omega (arith, w.i-is, c.loop-i.invariant.known);
-        last = subst (λ (k : ℕ). IsLastBehind heads bits n (k - 1)) (sym w.i-is) (behind-block heads bits n i c.loop-i.invariant.last w.if-heads-i-eq0.true);
-      }
-      | else-heads-i-eq0 w ↦ record {
-        known = omega (arith, w.i-is, c.loop-i.invariant.known);
-        last = subst (λ (k : ℕ). IsLastBehind heads bits n (k - 1)) (sym w.i-is) (behind-bit heads bits n i c.loop-i.invariant.last fails);
-      }
-    ]
+    let fails : IsNot heads bits n (i - 1) = sym c.is_at_most.ensures ∙ c.if-is_at_most.false in
+    let next : i ≡ i - 1 + 1 = omega (arith, c.loop-i-test.true) in
+    record {
+      low = omega (arith, c.loop-i-test.true);
+      high = omega (arith, c.loop-i.invariant.high);
+      last = from-bit heads bits n (i - 1) (subst (IsLastFrom heads bits n) next c.loop-i.invariant.last) fails;
+    }
+
+pub returns-clause-below : goal.returns-clause-below
+returns-clause-below c =
+    let b = c.block_of-b.result in
+    let known : b < length c.args.bits.now = omega (arith, c.block_of-b.ensures.known, c.requires.offsets.long) in
+    (start-last c.args.heads.now c.args.bits.now c.args.counts.now c.args.starts.now c.args.n b c.loop-i.i _ c.requires.offsets c.requires.starts c.requires.same known c.block_of-b.ensures.below
+    c.requires.some (omega (arith, c.loop-i-test.false)) c.loop-i.invariant.last refl).below

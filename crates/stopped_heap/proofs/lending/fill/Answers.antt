@@ -80,3 +80,10 @@ returns-clause-tables c =
       offsets = offsets;
       same = omega (arith, heads_long, bits_long, c.clear.ensures.len, c.clear-2.ensures.len);
     })
+
+pub returns-clause-long : goal.returns-clause-long
+returns-clause-long c =
+    let heads = c.mark_with.new.heads in
+    let heads_long : length heads ≡ c.clear.new.bits.len = grind (arith, common_steps, c.mark_with.ensures.same) in
+    rw (take_at heads (drop (length heads) c.clear.new.bits.items) c.clear.new.bits.len heads_long)
+    (omega (arith, heads_long, c.clear.ensures.len, c.div_ceil-blocks.ensures))

@@ -3,10 +3,13 @@ use Rattle.std.proofs.lemmas.Grind.{common_steps}
 use Rattle.std.proofs.lemmas.List.{take_at}
 use Rattle.mark_tables.specs.MarkBitmap.{AreOffsets}
 use Rattle.stopped_heap.proofs.Lent.{lent-sound, told-sound, told-indices}
+use Rattle.stopped_heap.proofs.Refusing.{marks-refused}
 use Rattle.stopped_heap.proofs.lending.fill_by_marks.Goals as goal
 
 pub returns-in-Err-take_marks-clause-fault : goal.returns-in-Err-take_marks-clause-fault
-returns-in-Err-take_marks-clause-fault c = c.in-Err-take_marks.ensures.fault c.args.roots.now
+returns-in-Err-take_marks-clause-fault c =
+    let roots = c.args.roots.now in
+    marks-refused c.args.edition c.args.words.now roots c.args.marks.now c.in-Err-take_marks.fault (c.requires.sizes, c.requires.blocks) (c.in-Err-take_marks.ensures.fault roots)
 
 pub returns-clause-sound : goal.returns-clause-sound
 returns-clause-sound c =

@@ -1,4 +1,4 @@
-use Rattle.std.proofs.Common.{length, arith}
+use Rattle.std.proofs.Common.{arith}
 use Rattle.stopped_heap.proofs.Covered.{live-block}
 use Rattle.stopped_heap.proofs.live_bits.fill_at.Goals as goal
 

@@ -1,11 +1,12 @@
 use Rattle.std.proofs.Common.{◌≡◌, length, ◌-◌, ◌≤◌, vec_capacity}
+use Rattle.stopped_heap.specs.Growing.{roots_on}
 use Rattle.stopped_heap.proofs.Reaching.{IsFollowed}
 use Rattle.stopped_heap.proofs.Spread.{IsSpread}
 use Rattle.stopped_heap.proofs.marking.mark_by.Given as goal
 
 abbrev pub invariant-loop-next : goal.invariant-loop-next
 invariant-loop-next l = record {
-  followed : IsFollowed l.edition l.words l.roots l.queue.items l.next;
+  followed : IsFollowed l.edition l.words (roots_on l.fn.queue.items l.roots) l.queue.items l.next;
   spread : IsSpread l.edition l.words l.queue.items l.next l.heads l.bits;
   long : length l.heads ≡ length l.fn.heads;
   room : vec_capacity l.fn.queue ≤ vec_capacity l.queue;

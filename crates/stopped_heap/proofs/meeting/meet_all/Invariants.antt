@@ -12,5 +12,6 @@ invariant-loop-k l = record {
   leads : (k : ℕ) → k < l.k → is_within l.edition l.count (get_or l.words k 0) ≡ true;
   once : AreOnce l.count l.queue.items;
   same : length l.met ≡ length l.fn.met;
+  more : length l.fn.queue.items ≤ length l.queue.items;
   room : vec_capacity l.fn.queue ≤ vec_capacity l.queue;
 }

@@ -5,11 +5,11 @@ use Rattle.heap_layout.specs.Heap.{header_at, object_at}
 use Rattle.heap_layout.proofs.Bounds.{words_most}
 use Rattle.mark_tables.specs.MarkBitmap.{set_bits}
 use Rattle.stopped_heap.specs.Places.{led_by, led_words, words_now, Found, IsAsFound, IsSlideFault}
+use Rattle.stopped_heap.specs.Surveys.{marks_of, told}
 use Rattle.stopped_heap.specs.declared.fault.SlideFault.TheVariants.{Changed, Unmarked}
-use Rattle.stopped_heap.proofs.Bounding.{bit-inside}
 use Rattle.stopped_heap.proofs.Placing.{found-same}
 use Rattle.stopped_heap.proofs.Slides.{some-head}
-use Rattle.stopped_heap.proofs.Tried.{tried-first, start-inside, is-next, now-placed, tried-next, tried-all, tried-changed, tried-unmarked}
+use Rattle.stopped_heap.proofs.Tried.{IsTried, tried-first, start-inside, start-below, is-next, next-start, now-placed, tried-next, tried-all, tried-changed, tried-unmarked}
 use Rattle.stopped_heap.proofs.trying.try_slide_run.Goals as goal
 
 pub last_head-start-requires-clause-some : goal.last_head-start-requires-clause-some
@@ -29,6 +29,8 @@ loop-place-init c =
       ws,
       c.requires.tables.1,
       c.requires.tables.2,
+      c.last_head-start.result,
+      λ inside. refl,
       tried-first e ws heads bits counts c.requires.tables.2 words first c.below-place.result c.last_head-start.result c.args.part.now
           (omega arith) last.here c.below-place.ensures.below (omega (arith, c.below-place.ensures.below, last.below)) last.last,
       refl,
@@ -49,7 +51,8 @@ offset_bounds-words-start c =
     let start = c.loop-place.start in
     let part = c.loop-place.part in
     let lt : place < length (set_bits bits) = omega arith in
-    let inside = start-inside e ws heads bits counts tables words first place start part loop.3 lt in
+    let tried : IsTried (told e ws heads) words first place start part = subst (λ (s : ℕ). IsTried (told e ws heads) words first place s part) (loop.4 c.loop-place-test.true) loop.5 in
+    let inside = start-inside e ws heads bits counts tables words first place start part tried lt in
     omega (arith, inside.0, tables.sound.few_words, words_most e)
 
 pub bounds-words-start : goal.bounds-words-start
@@ -67,11 +70,12 @@ bounds-words-start c =
     let start = c.loop-place.start in
     let part = c.loop-place.part in
     let lt : place < length (set_bits bits) = omega arith in
-    let inside = start-inside e ws heads bits counts tables words first place start part loop.3 lt in
+    let tried : IsTried (told e ws heads) words first place start part = subst (λ (s : ℕ). IsTried (told e ws heads) words first place s part) (loop.4 c.loop-place-test.true) loop.5 in
+    let inside = start-inside e ws heads bits counts tables words first place start part tried lt in
     omega (arith, inside.0, loop.1)
 
-pub head_behind-next-requires-clause-known : goal.head_behind-next-requires-clause-known
-head_behind-next-requires-clause-known c =
+pub next_behind-behind-requires-clause-offsets : goal.next_behind-behind-requires-clause-offsets
+next_behind-behind-requires-clause-offsets c =
     let e = c.args.edition in
     let words = c.args.words.now in
     let heads = c.args.heads.now in
@@ -85,10 +89,11 @@ head_behind-next-requires-clause-known c =
     let start = c.loop-place.start in
     let part = c.loop-place.part in
     let lt : place < length (set_bits bits) = omega arith in
-    bit-inside heads start (start-inside e ws heads bits counts tables words first place start part loop.3 lt).1
+    let tried : IsTried (told e ws heads) words first place start part = subst (λ (s : ℕ). IsTried (told e ws heads) words first place s part) (loop.4 c.loop-place-test.true) loop.5 in
+    tables.offsets
 
-pub overflow_sub-next_place : goal.overflow_sub-next_place
-overflow_sub-next_place c =
+pub next_behind-behind-requires-clause-same : goal.next_behind-behind-requires-clause-same
+next_behind-behind-requires-clause-same c =
     let e = c.args.edition in
     let words = c.args.words.now in
     let heads = c.args.heads.now in
@@ -102,15 +107,66 @@ overflow_sub-next_place c =
     let start = c.loop-place.start in
     let part = c.loop-place.part in
     let lt : place < length (set_bits bits) = omega arith in
-    let next = c.head_behind-next.result in
-    let behind = c.all_below-next_place.result in
-    let found = c.head_behind-next.ensures in
-    let counted = c.all_below-next_place.ensures in
-    let object = is-next e ws heads bits counts tables words first place start part loop.3 lt next behind found.from found.none found.here counted.below counted.all in
-    omega (arith, object.size)
+    let tried : IsTried (told e ws heads) words first place start part = subst (λ (s : ℕ). IsTried (told e ws heads) words first place s part) (loop.4 c.loop-place-test.true) loop.5 in
+    tables.same
 
-pub returns-then-shape-next_place-clause-fault : goal.returns-then-shape-next_place-clause-fault
-returns-then-shape-next_place-clause-fault c =
+pub next_behind-behind-requires-clause-head : goal.next_behind-behind-requires-clause-head
+next_behind-behind-requires-clause-head c =
+    let e = c.args.edition in
+    let words = c.args.words.now in
+    let heads = c.args.heads.now in
+    let bits = c.args.bits.now in
+    let counts = c.args.counts.now in
+    let first = c.args.first in
+    let loop = c.loop-place.invariant in
+    let ws = loop.0 in
+    let tables = loop.2 in
+    let place = c.loop-place.place in
+    let start = c.loop-place.start in
+    let part = c.loop-place.part in
+    let lt : place < length (set_bits bits) = omega arith in
+    let tried : IsTried (told e ws heads) words first place start part = subst (λ (s : ℕ). IsTried (told e ws heads) words first place s part) (loop.4 c.loop-place-test.true) loop.5 in
+    (start-inside e ws heads bits counts tables words first place start part tried lt).1
+
+pub next_behind-behind-requires-clause-place : goal.next_behind-behind-requires-clause-place
+next_behind-behind-requires-clause-place c =
+    let e = c.args.edition in
+    let words = c.args.words.now in
+    let heads = c.args.heads.now in
+    let bits = c.args.bits.now in
+    let counts = c.args.counts.now in
+    let first = c.args.first in
+    let loop = c.loop-place.invariant in
+    let ws = loop.0 in
+    let tables = loop.2 in
+    let place = c.loop-place.place in
+    let start = c.loop-place.start in
+    let part = c.loop-place.part in
+    let lt : place < length (set_bits bits) = omega arith in
+    let tried : IsTried (told e ws heads) words first place start part = subst (λ (s : ℕ). IsTried (told e ws heads) words first place s part) (loop.4 c.loop-place-test.true) loop.5 in
+    start-below e ws heads bits counts tables words first place start part tried lt
+
+pub next_behind-behind-requires-clause-some : goal.next_behind-behind-requires-clause-some
+next_behind-behind-requires-clause-some c =
+    let e = c.args.edition in
+    let words = c.args.words.now in
+    let heads = c.args.heads.now in
+    let bits = c.args.bits.now in
+    let counts = c.args.counts.now in
+    let first = c.args.first in
+    let loop = c.loop-place.invariant in
+    let ws = loop.0 in
+    let tables = loop.2 in
+    let place = c.loop-place.place in
+    let start = c.loop-place.start in
+    let part = c.loop-place.part in
+    let lt : place < length (set_bits bits) = omega arith in
+    let tried : IsTried (told e ws heads) words first place start part = subst (λ (s : ℕ). IsTried (told e ws heads) words first place s part) (loop.4 c.loop-place-test.true) loop.5 in
+    let size : c.shape_of-shape.result.size ≡ size_of (header_at e words start) = c.shape_of-shape.ensures.size in
+    omega (arith, size)
+
+pub returns-in_default-clause-fault : goal.returns-in_default-clause-fault
+returns-in_default-clause-fault c =
     λ room.
     let e = c.args.edition in
     let words = c.args.words.now in
@@ -125,14 +181,13 @@ returns-then-shape-next_place-clause-fault c =
     let start = c.loop-place.start in
     let part = c.loop-place.part in
     let lt : place < length (set_bits bits) = omega arith in
-    let next = c.head_behind-next.result in
-    let behind = c.all_below-next_place.result in
-    let found = c.head_behind-next.ensures in
-    let counted = c.all_below-next_place.ensures in
-    let object = is-next e ws heads bits counts tables words first place start part loop.3 lt next behind found.from found.none found.here counted.below counted.all in
+    let tried : IsTried (told e ws heads) words first place start part = subst (λ (s : ℕ). IsTried (told e ws heads) words first place s part) (loop.4 c.loop-place-test.true) loop.5 in
+    let size : c.shape_of-shape.result.size ≡ size_of (header_at e words start) = c.shape_of-shape.ensures.size in
+    let own = size_of (header_at e ws start) in
+    let object = is-next e ws heads bits counts tables words first place start part tried lt (place + own) refl in
     subst (λ (f : Found). IsSlideFault f words first (length c.args.part.now) (Changed start)) (found-same e ws heads bits counts (length words) room loop.1 tables)
-    (tried-changed e ws heads bits counts tables words first (length c.args.part.now) place start next behind loop.3.number c.shape_of-shape.result.size object
-    c.shape_of-shape.ensures.size (omega (arith, object.size)) (λ same. c.if-shape-next_place.true same))
+    (tried-changed e ws heads bits counts tables words first (length c.args.part.now) place start (get_or (marks_of heads) (tried.number + 1) 0) (place + own) tried.number c.shape_of-shape.result.size object
+    tried.at loop.1 c.requires.inside (omega arith) (omega (arith, c.loop-place-test.true)) size (omega arith) (λ same. c.in_default.ensures.other e ws tables (omega (arith, same))))
 
 pub overflow_sub-stop : goal.overflow_sub-stop
 overflow_sub-stop c =
@@ -149,14 +204,32 @@ overflow_sub-stop c =
     let start = c.loop-place.start in
     let part = c.loop-place.part in
     let lt : place < length (set_bits bits) = omega arith in
-    let next = c.head_behind-next.result in
-    let behind = c.all_below-next_place.result in
-    let found = c.head_behind-next.ensures in
-    let counted = c.all_below-next_place.ensures in
-    let object = is-next e ws heads bits counts tables words first place start part loop.3 lt next behind found.from found.none found.here counted.below counted.all in
+    let tried : IsTried (told e ws heads) words first place start part = subst (λ (s : ℕ). IsTried (told e ws heads) words first place s part) (loop.4 c.loop-place-test.true) loop.5 in
+    let next = c.in-Some.next in
+    let there = c.in-Some.ensures in
     let size : c.shape_of-shape.result.size ≡ size_of (header_at e words start) = c.shape_of-shape.ensures.size in
-    let seen : c.shape_of-shape.result.size ≡ behind - place = omega (arith, c.if-shape-next_place.false) in
+    let had = there.had e ws tables in
+    let object = is-next e ws heads bits counts tables words first place start part tried lt next.place (omega (arith, there.place, had)) in
+    let seen : c.shape_of-shape.result.size ≡ next.place - place = omega (arith, there.place) in
     omega (arith, object.reaches, object.size, seen, c.saturating_sub-from.ensures, c.min-stop.ensures, c.loop-place-test.true)
+
+pub try_slide_object-tried-requires-clause-offsets : goal.try_slide_object-tried-requires-clause-offsets
+try_slide_object-tried-requires-clause-offsets c =
+    let e = c.args.edition in
+    let words = c.args.words.now in
+    let heads = c.args.heads.now in
+    let bits = c.args.bits.now in
+    let counts = c.args.counts.now in
+    let first = c.args.first in
+    let loop = c.loop-place.invariant in
+    let ws = loop.0 in
+    let tables = loop.2 in
+    let place = c.loop-place.place in
+    let start = c.loop-place.start in
+    let part = c.loop-place.part in
+    let lt : place < length (set_bits bits) = omega arith in
+    let tried : IsTried (told e ws heads) words first place start part = subst (λ (s : ℕ). IsTried (told e ws heads) words first place s part) (loop.4 c.loop-place-test.true) loop.5 in
+    tables.offsets
 
 pub try_slide_object-tried-requires-clause-placed : goal.try_slide_object-tried-requires-clause-placed
 try_slide_object-tried-requires-clause-placed c =
@@ -173,14 +246,14 @@ try_slide_object-tried-requires-clause-placed c =
     let start = c.loop-place.start in
     let part = c.loop-place.part in
     let lt : place < length (set_bits bits) = omega arith in
-    let next = c.head_behind-next.result in
-    let behind = c.all_below-next_place.result in
-    let found = c.head_behind-next.ensures in
-    let counted = c.all_below-next_place.ensures in
-    let object = is-next e ws heads bits counts tables words first place start part loop.3 lt next behind found.from found.none found.here counted.below counted.all in
+    let tried : IsTried (told e ws heads) words first place start part = subst (λ (s : ℕ). IsTried (told e ws heads) words first place s part) (loop.4 c.loop-place-test.true) loop.5 in
+    let next = c.in-Some.next in
+    let there = c.in-Some.ensures in
     let size : c.shape_of-shape.result.size ≡ size_of (header_at e words start) = c.shape_of-shape.ensures.size in
-    let seen : c.shape_of-shape.result.size ≡ behind - place = omega (arith, c.if-shape-next_place.false) in
-    now-placed e ws heads bits counts tables words loop.3.number start object.known object.at loop.1 (omega (arith, size, seen, object.size))
+    let had = there.had e ws tables in
+    let object = is-next e ws heads bits counts tables words first place start part tried lt next.place (omega (arith, there.place, had)) in
+    let seen : c.shape_of-shape.result.size ≡ next.place - place = omega (arith, there.place) in
+    now-placed e ws heads bits counts tables words tried.number start object.known object.at loop.1 (omega (arith, size, had))
 
 pub try_slide_object-tried-requires-clause-some : goal.try_slide_object-tried-requires-clause-some
 try_slide_object-tried-requires-clause-some c =
@@ -197,13 +270,13 @@ try_slide_object-tried-requires-clause-some c =
     let start = c.loop-place.start in
     let part = c.loop-place.part in
     let lt : place < length (set_bits bits) = omega arith in
-    let next = c.head_behind-next.result in
-    let behind = c.all_below-next_place.result in
-    let found = c.head_behind-next.ensures in
-    let counted = c.all_below-next_place.ensures in
-    let object = is-next e ws heads bits counts tables words first place start part loop.3 lt next behind found.from found.none found.here counted.below counted.all in
+    let tried : IsTried (told e ws heads) words first place start part = subst (λ (s : ℕ). IsTried (told e ws heads) words first place s part) (loop.4 c.loop-place-test.true) loop.5 in
+    let next = c.in-Some.next in
+    let there = c.in-Some.ensures in
     let size : c.shape_of-shape.result.size ≡ size_of (header_at e words start) = c.shape_of-shape.ensures.size in
-    let seen : c.shape_of-shape.result.size ≡ behind - place = omega (arith, c.if-shape-next_place.false) in
+    let had = there.had e ws tables in
+    let object = is-next e ws heads bits counts tables words first place start part tried lt next.place (omega (arith, there.place, had)) in
+    let seen : c.shape_of-shape.result.size ≡ next.place - place = omega (arith, there.place) in
     omega (arith, object.reaches, object.size, seen, c.saturating_sub-from.ensures, c.min-stop.ensures, c.loop-place-test.true)
 
 pub try_slide_object-tried-requires-clause-inside : goal.try_slide_object-tried-requires-clause-inside
@@ -221,13 +294,13 @@ try_slide_object-tried-requires-clause-inside c =
     let start = c.loop-place.start in
     let part = c.loop-place.part in
     let lt : place < length (set_bits bits) = omega arith in
-    let next = c.head_behind-next.result in
-    let behind = c.all_below-next_place.result in
-    let found = c.head_behind-next.ensures in
-    let counted = c.all_below-next_place.ensures in
-    let object = is-next e ws heads bits counts tables words first place start part loop.3 lt next behind found.from found.none found.here counted.below counted.all in
+    let tried : IsTried (told e ws heads) words first place start part = subst (λ (s : ℕ). IsTried (told e ws heads) words first place s part) (loop.4 c.loop-place-test.true) loop.5 in
+    let next = c.in-Some.next in
+    let there = c.in-Some.ensures in
     let size : c.shape_of-shape.result.size ≡ size_of (header_at e words start) = c.shape_of-shape.ensures.size in
-    let seen : c.shape_of-shape.result.size ≡ behind - place = omega (arith, c.if-shape-next_place.false) in
+    let had = there.had e ws tables in
+    let object = is-next e ws heads bits counts tables words first place start part tried lt next.place (omega (arith, there.place, had)) in
+    let seen : c.shape_of-shape.result.size ≡ next.place - place = omega (arith, there.place) in
     omega (arith, object.reaches, object.size, seen, size, c.saturating_sub-from.ensures, c.min-stop.ensures, c.loop-place-test.true)
 
 pub returns-in-Err-clause-fault : goal.returns-in-Err-clause-fault
@@ -246,21 +319,21 @@ returns-in-Err-clause-fault c =
     let start = c.loop-place.start in
     let part = c.loop-place.part in
     let lt : place < length (set_bits bits) = omega arith in
-    let next = c.head_behind-next.result in
-    let behind = c.all_below-next_place.result in
-    let found = c.head_behind-next.ensures in
-    let counted = c.all_below-next_place.ensures in
-    let object = is-next e ws heads bits counts tables words first place start part loop.3 lt next behind found.from found.none found.here counted.below counted.all in
+    let tried : IsTried (told e ws heads) words first place start part = subst (λ (s : ℕ). IsTried (told e ws heads) words first place s part) (loop.4 c.loop-place-test.true) loop.5 in
+    let next = c.in-Some.next in
+    let there = c.in-Some.ensures in
     let size : c.shape_of-shape.result.size ≡ size_of (header_at e words start) = c.shape_of-shape.ensures.size in
-    let seen : c.shape_of-shape.result.size ≡ behind - place = omega (arith, c.if-shape-next_place.false) in
+    let had = there.had e ws tables in
+    let object = is-next e ws heads bits counts tables words first place start part tried lt next.place (omega (arith, there.place, had)) in
+    let seen : c.shape_of-shape.result.size ≡ next.place - place = omega (arith, there.place) in
     let inside = c.in-Err.ensures.inside in
     let f = c.in-Err.f in
     let offset = c.saturating_sub-from.ensures in
     let ends = c.min-stop.ensures in
     let short : f < c.min-stop.result = omega (arith, inside.0, inside.1) in
     subst (λ (g : Found). IsSlideFault g words first (length c.args.part.now) (Unmarked (start + f))) (found-same e ws heads bits counts (length words) room loop.1 tables)
-    (tried-unmarked e ws heads bits counts tables words first place start part loop.3 next behind f object (length c.args.part.now)
-    (omega (arith, inside.0, offset)) (omega (arith, short, ends, c.loop-place-test.true)) (omega (arith, short, ends, seen)) inside.2 inside.3 c.in-Err.ensures.unmarked)
+    (tried-unmarked e ws heads bits counts tables words first place start part tried (get_or (marks_of heads) (tried.number + 1) 0) next.place f object (length c.args.part.now)
+    loop.1 c.requires.inside (omega (arith, inside.0, offset)) (omega (arith, short, ends, c.loop-place-test.true)) (omega (arith, short, ends, seen)) inside.2 inside.3 c.in-Err.ensures.unmarked)
 
 pub loop-place-preserved : goal.loop-place-preserved
 loop-place-preserved c =
@@ -277,30 +350,33 @@ loop-place-preserved c =
     let start = c.loop-place.start in
     let part = c.loop-place.part in
     let lt : place < length (set_bits bits) = omega arith in
-    let next = c.head_behind-next.result in
-    let behind = c.all_below-next_place.result in
-    let found = c.head_behind-next.ensures in
-    let counted = c.all_below-next_place.ensures in
-    let object = is-next e ws heads bits counts tables words first place start part loop.3 lt next behind found.from found.none found.here counted.below counted.all in
+    let tried : IsTried (told e ws heads) words first place start part = subst (λ (s : ℕ). IsTried (told e ws heads) words first place s part) (loop.4 c.loop-place-test.true) loop.5 in
+    let next = c.in-Some.next in
+    let there = c.in-Some.ensures in
     let size : c.shape_of-shape.result.size ≡ size_of (header_at e words start) = c.shape_of-shape.ensures.size in
-    let seen : c.shape_of-shape.result.size ≡ behind - place = omega (arith, c.if-shape-next_place.false) in
+    let had = there.had e ws tables in
+    let object = is-next e ws heads bits counts tables words first place start part tried lt next.place (omega (arith, there.place, had)) in
+    let seen : c.shape_of-shape.result.size ≡ next.place - place = omega (arith, there.place) in
     let from = c.saturating_sub-from.result in
     let stop = c.min-stop.result in
     let new = c.try_slide_object-tried.new.part in
     let same = found-same e ws heads bits counts (length words) 0 loop.1 tables in
     let whole : (c.shape_of-shape.result.size ≤ stop) ⊎ (first + length part ≤ place + stop) =
     elim (cases_lt stop c.shape_of-shape.result.size) [
-      | inl cut ↦ inr (omega (arith, cut, c.min-stop.ensures, loop.4))
+      | inl cut ↦ inr (omega (arith, cut, c.min-stop.ensures, loop.6))
       | inr all ↦ inl all
-    ] in (
+    ] in
+    let behind = get_or (marks_of heads) (tried.number + 1) 0 in (
       ws,
       loop.1,
       tables,
-      tried-next e ws heads bits counts tables words first place start part loop.3 next behind object c.shape_of-shape.result.size from stop (place + from - first) new
-          size seen c.saturating_sub-from.ensures (omega (arith, c.min-stop.ensures)) whole refl c.try_slide_object-tried.ensures.length c.in_default.ensures.before
-          (λ j less. c.in_default.ensures.written j less ∙ ap (λ (g : Found). get_or (led_words (led_by g) (object_at e words start)) (from + j) 0) (sym same))
-          (λ f low high positive few. c.in_default.ensures.marked f low (omega (arith, low, high)) positive few),
-      c.try_slide_object-tried.ensures.length ∙ loop.4,
+      behind,
+      λ inside. next-start e ws heads bits counts tables words first place start next.place tried.number object (omega (arith, inside, c.requires.inside)) next.start (there.from inside) (there.none inside) (there.here inside),
+      tried-next e ws heads bits counts tables words first place start part tried behind next.place object c.shape_of-shape.result.size from stop (place + from - first) new
+          size seen c.saturating_sub-from.ensures (omega (arith, c.min-stop.ensures)) whole refl c.try_slide_object-tried.ensures.length c.in_default-tried.ensures.before
+          (λ j less. c.in_default-tried.ensures.written j less ∙ ap (λ (g : Found). get_or (led_words (led_by g) (object_at e words start)) (from + j) 0) (sym same))
+          (λ f low high positive few. c.in_default-tried.ensures.marked f low (omega (arith, low, high)) positive few),
+      c.try_slide_object-tried.ensures.length ∙ loop.6,
     )
 
 pub returns-clause-words : goal.returns-clause-words
@@ -321,7 +397,7 @@ returns-clause-words c =
     let same = found-same e ws heads bits counts (length words) 0 loop.1 tables in
     let at : j ≡ first + j - first = omega arith in
     ap (λ (n : ℕ). get_or part n 0) at
-    ∙ loop.3.made (first + j) (omega arith) (omega (arith, lt, c.loop-place-test.false)) (omega (arith, lt, loop.4))
+    ∙ loop.5.made (first + j) (omega arith) (omega (arith, lt, c.loop-place-test.false)) (omega (arith, lt, loop.6))
     ∙ ap (λ (g : Found). get_or (words_now g words) (first + j) 0) same
 
 pub returns-clause-as_found : goal.returns-clause-as_found
@@ -341,4 +417,4 @@ returns-clause-as_found c =
     let part = c.loop-place.part in
     let count = length c.args.part.now in
     subst (λ (g : Found). IsAsFound g words first count) (found-same e ws heads bits counts (length words) room loop.1 tables)
-    (tried-all e ws heads bits counts tables words first place start part loop.3 count room (sym loop.4) (omega (arith, c.loop-place-test.false)))
+    (tried-all e ws heads bits counts tables words first place loop.3 part loop.5 count room (sym loop.6) (omega (arith, c.loop-place-test.false)))

@@ -1,12 +1,14 @@
-use Rattle.std.proofs.Common.{◌≡◌, ℕ, ◌-◌, List, length}
+use Rattle.std.proofs.Common.{◌≡◌, ℕ, ◌-◌, ◌<◌, List, length}
 use Rattle.stopped_heap.specs.Surveys.{told, AreTables}
 use Rattle.stopped_heap.proofs.Tried.{IsTried}
 use Rattle.stopped_heap.proofs.trying.try_slide_run.Given as goal
 
--- the words that were surveyed are some that have these tables
+-- The words that were surveyed are some that have these tables. The index of the next object is only looked for if words
+-- of it slide into the part.
 abbrev pub invariant-loop-place : goal.invariant-loop-place
 invariant-loop-place l =
-    (ws : List ℕ) × (length ws ≡ length l.words) × AreTables l.edition ws l.heads l.bits l.counts × IsTried (told l.edition ws l.heads) l.words l.first l.place l.start l.part
+    (ws : List ℕ) × (length ws ≡ length l.words) × AreTables l.edition ws l.heads l.bits l.counts
+    × (next : ℕ) × (l.place < l.end → next ≡ l.start) × IsTried (told l.edition ws l.heads) l.words l.first l.place next l.part
     × (length l.part ≡ length l.fn.part)
 
 abbrev pub decreases-loop-place : goal.decreases-loop-place

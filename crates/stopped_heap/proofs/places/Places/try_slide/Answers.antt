@@ -69,4 +69,5 @@ returns-clause-other_count c =
     let count = length c.args.part.now in
     let found : Found = found_in inside.edition (length words) c.deref.result.now c.deref-2.result.now inside.room in
     IfErr-weaker c.try_slide_part.result _ (λ (fault : SlideFault). fault ≡ slide.OtherCount → c.try_slide_part.new.part ≡ c.args.part.now) (λ fault is same.
-    absurd (subst (λ (f : SlideFault). IsSlideFault found words first count f) same (is inside.room) refl)) c.try_slide_part.ensures.fault
+    absurd (let other : IsSlideFault found words first count slide.OtherCount = subst (λ (f : SlideFault). IsSlideFault found words first count f) same (is inside.room) in
+    other.1 refl)) c.try_slide_part.ensures.fault

@@ -1,4 +1,5 @@
-use Rattle.std.proofs.Common.{arith}
+use Rattle.std.proofs.Common.{List, ℕ, subst, arith}
+use Rattle.stopped_heap.specs.Starts.{AreStarts}
 use Rattle.stopped_heap.proofs.survey.Survey.of.Goals as goal
 
 pub invariant_of-result : goal.invariant_of-result
@@ -10,4 +11,6 @@ invariant_of-result c = (
     for_counts = omega (arith, c.in_ok-heads.ensures.tables.offsets.long);
     for_queue = omega arith;
   },
+  subst (λ (hs : List ℕ). AreStarts hs c.in_ok-starts.starts.items) c.deref.ensures.value c.in_ok-starts.ensures,
+  omega arith,
 )

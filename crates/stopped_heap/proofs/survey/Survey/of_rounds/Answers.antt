@@ -3,6 +3,7 @@ use Rattle.std.proofs.lemmas.Grind.{common_steps}
 use Rattle.std.proofs.lemmas.List.{take_at}
 use Rattle.heap_layout.specs.Limits.{most_words, most_roots}
 use Rattle.mark_tables.specs.MarkBitmap.{AreOffsets}
+use Rattle.stopped_heap.specs.Starts.{AreStarts}
 use Rattle.stopped_heap.proofs.Lasting.{all-reached, all-sound, all-told, all-indices}
 use Rattle.stopped_heap.proofs.survey.Survey.of_rounds.Goals as goal
 
@@ -50,7 +51,9 @@ invariant_of-result g c =
     let counts = c.in_ok-counts.counts.items in
     let whole = take_at bits (drop (length bits) c.in_ok-bits.bits.items) c.in_ok-bits.bits.len bits_long in
     let offsets : AreOffsets bits counts = subst (λ (bs : List ℕ). AreOffsets bs counts) (c.deref.ensures.value ∙ whole) c.in_ok-counts.ensures in
-    rw (take_at heads (drop (length heads) c.in_ok-heads.heads.items) c.in_ok-heads.heads.len heads_long, whole) (
+    let whole_heads = take_at heads (drop (length heads) c.in_ok-heads.heads.items) c.in_ok-heads.heads.len heads_long in
+    let starts : AreStarts heads c.in_ok-starts.starts.items = subst (λ (hs : List ℕ). AreStarts hs c.in_ok-starts.starts.items) (c.deref-2.ensures.value ∙ whole_heads) c.in_ok-starts.ensures in
+    rw (whole_heads, whole) (
       record {
         sound = all-told edition words roots heads bits few few_roots are;
         indices = all-indices edition words roots heads bits few few_roots are room;
@@ -58,4 +61,6 @@ invariant_of-result g c =
         same = omega (arith, heads_long, bits_long, c.in_ok-heads.ensures.len, c.in_ok-bits.ensures.len);
       },
       record { for_heads = omega arith; for_bits = omega arith; for_counts = omega (arith, c.in_ok-counts.ensures.long); for_queue = omega arith },
+      starts,
+      omega arith,
     )
