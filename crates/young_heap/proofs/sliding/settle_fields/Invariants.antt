@@ -1,0 +1,14 @@
+use Rattle.std.proofs.Common.{◌≡◌, ℕ, ◌<◌, ◌≤◌, false, length, get_or}
+use Rattle.mark_tables.specs.MarkBitmap.{set_bits}
+use Rattle.reachability.specs.Queue.{has}
+use Rattle.stopped_heap.specs.Looking.{led_to}
+use Rattle.young_heap.proofs.sliding.settle_fields.Given as goal
+
+-- the first n fields are forwarded
+abbrev pub invariant-loop-n : goal.invariant-loop-n
+invariant-loop-n l = record {
+  done : (m : ℕ) → m < l.n → get_or l.words (get_or l.fields m 0) 0 ≡ led_to l.edition (set_bits l.bits) (get_or l.fn.words (get_or l.fields m 0) 0);
+  later : (m : ℕ) → l.n ≤ m → m < length l.fields → get_or l.words (get_or l.fields m 0) 0 ≡ get_or l.fn.words (get_or l.fields m 0) 0;
+  others : (j : ℕ) → has l.fields j ≡ false → get_or l.words j 0 ≡ get_or l.fn.words j 0;
+  long : length l.words ≡ length l.fn.words;
+}

@@ -1,0 +1,83 @@
+//! Laws of young collections. Each is the contract of a function that does nothing.
+ghost use Rattle.std.specs.Prelude.{◌≡◌, List, ℕ, ◌<◌, ◌≤◌, [], All, length, true};
+ghost use Rattle.heap_layout.specs.declared.edition.Edition.{Edition};
+ghost use Rattle.heap_layout.specs.Bits.{bit};
+ghost use Rattle.heap_layout.specs.Heap.{Heap};
+ghost use Rattle.stopped_heap.specs.Collecting.{HasCollected, IsCollected};
+ghost use Rattle.stopped_heap.specs.Reached.{IsSound};
+ghost use Rattle.stopped_heap.specs.Settled.{collected, places};
+ghost use Rattle.stopped_heap.specs.Surveys.{marks_of};
+ghost use Rattle.young_heap.specs.Cards.{AreCleanCards, AreGathered, AreStored};
+ghost use Rattle.young_heap.specs.Rows.{IsInRow};
+ghost use Rattle.young_heap.specs.Young.{AreKeptBelow, AreOld, AreRemembered, HasCollectedYoung};
+
+/// Before the first collection nothing is old: the premise holds with watermark 0, whatever the words, tables and
+/// cards.
+pub fn nothing_is_old()
+    ensures row { (edition : Edition) (words starts : List ℕ) → AreOld edition words starts 0 }
+    ensures clean { (edition : Edition) (words starts cards : List ℕ) → AreCleanCards edition words starts 0 cards }
+{}
+
+/// A young collection with watermark 0 is a collection of all: what lives is exactly what the roots reach.
+pub fn all_is_collected()
+    ensures { (edition : Edition) (words roots starts fields : List ℕ) (live : ℕ) (new_roots after : List ℕ)
+        → All (λ j. j < 0) fields
+        → HasCollectedYoung edition words roots starts 0 fields live new_roots after
+        → HasCollected edition words roots live new_roots words after }
+{}
+
+/// If no field has to be remembered, as after a collection, then each card may be clean.
+pub fn remembered_is_clean()
+    ensures { (edition : Edition) (words starts : List ℕ) (old : ℕ) (cards : List ℕ)
+        → AreRemembered edition words starts old []
+        → AreCleanCards edition words starts old cards }
+{}
+
+/// Mutators that mark the card of each reference that they store into an old object, and change no header there and
+/// store no weak word there that leads above, keep the premise of the next young collection.
+pub fn stored_is_clean()
+    ensures row { (edition : Edition) (words starts : List ℕ) (old : ℕ) (cards after marked : List ℕ)
+        → AreStored edition words starts old cards after marked
+        → AreOld edition words starts old → AreOld edition after starts old }
+    ensures clean { (edition : Edition) (words starts : List ℕ) (old : ℕ) (cards after marked : List ℕ)
+        → AreStored edition words starts old cards after marked
+        → AreCleanCards edition words starts old cards → AreCleanCards edition after starts old marked }
+{}
+
+/// What a collection leaves, a young one or one of all, is a row of objects that lead to one another alone, if `starts`
+/// has the bits of their places. So the next young collection may take the end of the live words for its watermark, and
+/// no field is remembered as long as nothing is written.
+pub fn collected_is_old()
+    ensures row { (heap : Heap) (starts : List ℕ) → IsSound heap → marks_of starts ≡ places heap
+        → AreOld heap.edition (collected heap).words starts (length (collected heap).words) }
+    ensures clean { (heap : Heap) (starts : List ℕ) → IsSound heap → marks_of starts ≡ places heap
+        → AreRemembered heap.edition (collected heap).words starts (length (collected heap).words) [] }
+{}
+
+/// If references on clean cards lead below, what was gathered from the dirty ones is all that has to be remembered.
+pub fn gathered_is_remembered()
+    ensures { (edition : Edition) (words starts : List ℕ) (old : ℕ) (cards fields : List ℕ)
+        → AreCleanCards edition words starts old cards
+        → AreGathered edition words starts old cards old fields → AreOld edition words starts old
+        → AreRemembered edition words starts old fields }
+{}
+
+/// After a young collection, and after `promote`, the premise of the next one holds, with the end of the live words for
+/// its watermark and no fields: whatever was a row of old objects before is one again. Here `heads` are the marks of
+/// the collection, and `next` are the bits that `promote` leaves.
+pub fn promoted_is_old()
+    ensures row { (edition : Edition) (words roots heads next : List ℕ) (old total : ℕ) (new_roots after : List ℕ)
+        → IsCollected (record { edition = edition; words = words; marks = marks_of heads; roots = roots })
+        total new_roots words after
+        → AreOld edition words heads old → AreKeptBelow old heads next
+        → ((j : ℕ) → old ≤ j → bit next j ≡ true → IsInRow edition after total old j)
+        → ((j : ℕ) → IsInRow edition after total old j → bit next j ≡ true)
+        → AreOld edition after next total }
+    ensures clean { (edition : Edition) (words roots heads next : List ℕ) (old total : ℕ) (new_roots after : List ℕ)
+        → IsCollected (record { edition = edition; words = words; marks = marks_of heads; roots = roots })
+        total new_roots words after
+        → AreOld edition words heads old → AreKeptBelow old heads next
+        → ((j : ℕ) → old ≤ j → bit next j ≡ true → IsInRow edition after total old j)
+        → ((j : ℕ) → IsInRow edition after total old j → bit next j ≡ true)
+        → AreRemembered edition after next total [] }
+{}

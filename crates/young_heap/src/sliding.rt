@@ -1,0 +1,73 @@
+//! Forwards the fields of old objects, and slides what lives above down to the old ones.
+ghost use Rattle.std.specs.Prelude.{◌≡◌, ℕ, ◌-◌, ◌*◌, ◌<◌, ◌^◌, ◌++◌, false, All, length, drop, slice_index};
+ghost use Rattle.std.specs.List.Sorted.{IsStrictlyIncreasing};
+ghost use Rattle.heap_layout.specs.Heap.{live};
+ghost use Rattle.heap_layout.specs.Values.{is_immediate};
+ghost use Rattle.mark_tables.specs.MarkBitmap.{set_bits, AreOffsets};
+ghost use Rattle.page_plan.specs.Sliding.{live_words};
+ghost use Rattle.reachability.specs.Queue.{has};
+ghost use Rattle.stopped_heap.specs.Looking.{led_to};
+ghost use Rattle.stopped_heap.specs.Settled.{settled_words};
+ghost use Rattle.stopped_heap.specs.Surveys.{told, AreTables};
+ghost use Rattle.young_heap.specs.Young.{AreFieldsBelow, AreOld, AreRemembered, AreYoungTables};
+
+use crate::finding::next_set;
+use crate::forwarding::settled_reference;
+use crate::shape::shape_of;
+use crate::sliding_down::slide_down_object;
+use heap_layout::Edition;
+
+// Makes these fields lead to where their objects are after the collection.
+fn settle_fields(edition: Edition, bits: &[u64], counts: &[u32], words: &mut [u64], fields: &[u32])
+    requires offsets { AreOffsets bits.now counts.now }
+    requires below { All (λ j. j < length words.old) fields.now }
+    requires rising { IsStrictlyIncreasing fields.now }
+    requires known { (n : ℕ) → n < length fields.now
+        → is_immediate edition (slice_index words.old (slice_index fields.now n)) ≡ false
+        → slice_index words.old (slice_index fields.now n) - 2 ^ 32 < 64 * length bits.now }
+    ensures settled { (n : ℕ) → n < length fields.now → slice_index words.new (slice_index fields.now n)
+        ≡ led_to edition (set_bits bits.now) (slice_index words.old (slice_index fields.now n)) }
+    ensures others { (j : ℕ) → has fields.now j ≡ false → slice_index words.new j ≡ slice_index words.old j }
+    ensures length { length words.new ≡ length words.old }
+{
+    for n in 0..fields.len() {
+        let j = fields[n] as usize;
+        words[j] = settled_reference(edition, bits, counts, words[j]);
+    }
+}
+
+/// Slides the live objects above index `old` down to it, each behind the one before, and makes the fields lead there.
+/// Nothing else below index `old` is read or written; the words behind the live ones stay as they are.
+pub(crate) fn slide_above(
+    edition: Edition,
+    old: usize,
+    heads: &[u64],
+    bits: &[u64],
+    counts: &[u32],
+    words: &mut [u64],
+    fields: &[u32],
+)
+    requires tables { AreYoungTables edition words.old old heads.now bits.now counts.now }
+    requires fields { AreFieldsBelow old fields.now }
+    requires known { (n : ℕ) → n < length fields.now
+        → is_immediate edition (slice_index words.old (slice_index fields.now n)) ≡ false
+        → slice_index words.old (slice_index fields.now n) - 2 ^ 32 < 64 * length bits.now }
+    ensures slid { AreTables edition words.old heads.now bits.now counts.now → AreOld edition words.old heads.now old
+        → AreRemembered edition words.old heads.now old fields.now
+        → words.new ≡ settled_words (live (told edition words.old heads.now))
+        ++ drop (live_words (live (told edition words.old heads.now))) words.old }
+    ensures others { (j : ℕ) → j < old → has fields.now j ≡ false → slice_index words.new j ≡ slice_index words.old j }
+    ensures length { length words.new ≡ length words.old }
+{
+    settle_fields(edition, bits, counts, words, fields);
+    let live = counts[bits.len()] as usize;
+    let mut next = old;
+    let mut place = old;
+    while place < live {
+        let start = next_set(heads, next);
+        let shape = shape_of(edition, words[start]);
+        slide_down_object(edition, heads, bits, counts, words, start, place, shape);
+        place += shape.size;
+        next = start + shape.size;
+    }
+}
