@@ -4,3 +4,4 @@ pub mod Steps
 pub mod TurnSteps
 pub mod Cutting
 pub mod Whole
+pub mod Refusals

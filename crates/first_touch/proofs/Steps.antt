@@ -11,8 +11,8 @@ use Rattle.atomic_table.specs.Table.{State, Act, Me, Allows, Enters, opening, st
 use Rattle.atomic_table.specs.Table as act
 use Rattle.atomic_table.proofs.Lists.{set_here, set_else, at_map, exchanged}
 use Rattle.first_touch.specs.Asked.{Asked, page_len, slid_page}
-use Rattle.first_touch.specs.Known.{Known, met_at, AreKnown}
-use Rattle.first_touch.specs.Pages.{Slot, IsWaiting, Holds, at_page, first_view, looks, claims, puts_back, publishes, walks}
+use Rattle.first_touch.specs.Known.{Known, known_at, met_at, AreKnown}
+use Rattle.first_touch.specs.Pages.{Slot, IsWaiting, Holds, at_page, gone_from, first_view, looks, claims, puts_back, publishes, walks}
 use Rattle.first_touch.specs.Rows.{AreRows}
 use Rattle.first_touch.specs.declared.view.View.{View}
 use Rattle.first_touch.proofs.Knowing.{alone, found, further, joined, learnt, moved, never_one, nobody_aware, others_unaware}
@@ -101,9 +101,9 @@ module _ (asked : Asked) (s : State Slot View) (h : Holds asked s) (id : ℕ) (v
 
     module _ (one : v.known.stand ≡ 1) (page : v.known.page ≡ k) where
       -- the thread has the page, and its word becomes n
-      known_put : (n : ℕ) → AreKnown knows (set s.words k n) (set s.views id (at_page asked k n n))
-      known_put n = moved knows s.words s.views h.known id v at k n (at_page asked k n n) within refl
-          (λ is. omega (arith, is, one))
+      known_put : (n : ℕ) (w : View) → w.known ≡ known_at k n → AreKnown knows (set s.words k n) (set s.views id w)
+      known_put n w is = moved knows s.words s.views h.known id v at k n w within is
+          (λ two. omega (arith, two, one))
           (others_unaware knows s.words s.views h.known id v at k one page)
 
       -- the page comes home
@@ -113,12 +113,12 @@ module _ (asked : Asked) (s : State Slot View) (h : Holds asked s) (id : ℕ) (v
         waits = λ j lt word. dite (ℕ_discrete j k)
             (λ here. absurd (not_zero 2 j (λ is. omega (arith, is)) here word))
             (λ differs. h.waits j lt (sym (get_or-set_other s.words k j 2 0 differs) ∙ word));
-        known = known_put 2;
+        known = known_put 2 (at_page asked k 2 2) refl;
       }
 
       -- the page waits again
       pub back : (pg : MutBor (List ℕ)) → length pg.now ≡ page_len asked k
-          → Holds asked (put k 0 (set s.homes k (some (Some pg))) (at_page asked k 0 0))
+          → Holds asked (put k 0 (set s.homes k (some (Some pg))) (gone_from asked k 0))
       back pg long =
           let slot : Option Slot = some (Some pg) in
           let homes = set s.homes k slot in
@@ -129,7 +129,7 @@ module _ (asked : Asked) (s : State Slot View) (h : Holds asked s) (id : ℕ) (v
                 let there = ap (get_elem? homes) here ∙ set_here s.homes k slot inside in
                 (pg, there, long ∙ ap (page_len asked) (sym here)))
                 (λ differs. waits_still 0 j slot differs (omega (arith, lt, length-set s.homes k slot)) word);
-            known = known_put 0;
+            known = known_put 0 (gone_from asked k 0) refl;
           }
 
 -- whatever is found: the exchange
@@ -172,7 +172,8 @@ pub put_back_allowed : (asked : Asked) (n id k : ℕ) (page : MutBor (List ℕ))
     (λ _. puts_back (step n k 0 0 none) (at_page asked k 1 0, (k, Some page) ∷ []) 0)
 put_back_allowed asked n id k page lt long = λ s h many at bound.
     let inside : k < length s.homes = omega (arith, many, lt) in
-    (at_page asked k 0 0, act.gives, tt, back asked s h id (at_page asked k 1 0) at k inside refl refl page long, refl)
+    let holds = back asked s h id (at_page asked k 1 0) at k inside refl refl page long in
+    (gone_from asked k 0, act.gives, tt, holds, (refl, refl))
 
 pub walk_allowed : (asked : Asked) (n id k : ℕ) (m : Me Slot View) → k < n
     → Allows (Holds asked) n id m k (λ found. found) (walks (step n k 0 0 none) m)

@@ -8,8 +8,8 @@ use prog.Atomic.{either}
 use Rattle.atomic_table.specs.Table.{State, Act, Me, Allows, Enters, opening, step, stepped}
 use Rattle.atomic_table.specs.Table as act
 use Rattle.atomic_table.proofs.Lists.{exchanged}
-use Rattle.first_touch.specs.Known.{Known, met_at, AreKnown}
-use Rattle.first_touch.specs.Turning.{Holds, at_page, first_view, looks, claims, puts_back, publishes, walks}
+use Rattle.first_touch.specs.Known.{Known, known_at, met_at, AreKnown}
+use Rattle.first_touch.specs.Turning.{Holds, at_page, gone_from, first_view, looks, claims, puts_back, publishes, walks}
 use Rattle.first_touch.specs.declared.turn_view.TurnView.{TurnView}
 use Rattle.first_touch.proofs.Knowing.{alone, found, further, joined, learnt, moved, never_one, nobody_aware, others_unaware}
 use Rattle.first_touch.proofs.Lists.{set_same}
@@ -74,11 +74,12 @@ module _ (pages : ℕ) (s : State S TurnView) (h : Holds pages s) (id : ℕ) (v 
     }
 
     -- the thread has the page, and its word becomes n
-    pub changed_by : v.known.stand ≡ 1 → v.known.page ≡ k → (n : ℕ) → Holds pages (put k n (at_page k n n))
-    changed_by one page n = record {
+    pub changed_by : v.known.stand ≡ 1 → v.known.page ≡ k → (n : ℕ) (w : TurnView) → w.known ≡ known_at k n
+        → Holds pages (put k n w)
+    changed_by one page n w is = record {
       many = length-set s.words k n ∙ h.many;
-      known = moved knows s.words s.views h.known id v at k n (at_page k n n) within refl
-          (λ is. omega (arith, is, one))
+      known = moved knows s.words s.views h.known id v at k n w within is
+          (λ two. omega (arith, two, one))
           (others_unaware knows s.words s.views h.known id v at k one page);
     }
 
@@ -104,13 +105,15 @@ pub publish_allowed : (pages n id k : ℕ) → k < pages
     → Allows (Holds pages) n id (at_page k 1 0, []) k (λ _. 2)
     (λ _. publishes (step n k 2 0 none) (at_page k 1 0, []) 2)
 publish_allowed pages n id k inside = λ s h many at bound.
-    (at_page k 2 2, act.keeps, tt, changed_by pages s h id (at_page k 1 0) at k inside refl refl 2, refl)
+    let w = at_page k 2 2 in
+    (w, act.keeps, tt, changed_by pages s h id (at_page k 1 0) at k inside refl refl 2 w refl, refl)
 
 pub put_back_allowed : (pages n id k : ℕ) → k < pages
     → Allows (Holds pages) n id (at_page k 1 0, []) k (λ _. 0)
     (λ _. puts_back (step n k 0 0 none) (at_page k 1 0, []) 0)
 put_back_allowed pages n id k inside = λ s h many at bound.
-    (at_page k 0 0, act.keeps, tt, changed_by pages s h id (at_page k 1 0) at k inside refl refl 0, refl)
+    let w = gone_from k 0 in
+    (w, act.keeps, tt, changed_by pages s h id (at_page k 1 0) at k inside refl refl 0 w refl, (refl, refl))
 
 pub walk_allowed : (pages n id k : ℕ) (m : Me S TurnView) → k < pages
     → Allows (Holds pages) n id m k (λ found. found) (walks (step n k 0 0 none) m)

@@ -6,6 +6,7 @@ use Rattle.first_touch.specs.Seen.{Desked, TurnDesk}
 use Rattle.first_touch.specs.declared.not_begun.BeginFault.{BeginFault}
 use Rattle.first_touch.specs.declared.not_begun.BeginFault.TheVariants as fault
 use Rattle.first_touch.specs.declared.not_begun.NotBegun.{NotBegun}
+use Rattle.first_touch.specs.declared.not_begun.NotBegunTurns.{NotBegunTurns}
 
 -- a desk of these words, of which this was found, and of a memory of so many words, in pages of so many words
 pub record IsBegun (found : Found) (words : List ℕ) (room size : ℕ) (desk : Desked) : Type 0 where
@@ -29,3 +30,8 @@ IsBeginFault found room size fault.OutOfMemory = (0 < size) × (room ≡ length 
 pub record IsNotBegun (found : Found) (room size : ℕ) (refused : NotBegun) : Type 0 where
   pub back : refused.places ≡ found
   pub fault : IsBeginFault found room size refused.fault
+
+-- the share of what was found comes back, with the reason
+pub record AreNotBegun (found : Found) (size : ℕ) (refused : NotBegunTurns) : Type 0 where
+  pub back : refused.places.value ≡ found
+  pub fault : IsBeginFault found (length found.indices) size refused.fault

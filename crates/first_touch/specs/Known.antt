@@ -1,6 +1,6 @@
 -- What threads know of pages. Each page has an atomic word: 0 while the page waits, 1 while a thread has it, and 2 when
 -- it is home.
-use Rattle.std.specs.Prelude.{◌≡◌, ◌≢◌, ℕ, ◌<◌, List, slice_index}
+use Rattle.std.specs.Prelude.{◌≡◌, ◌≢◌, ℕ, ◌<◌, Bool, true, false, List, slice_index}
 use mathlib.Core.Option.{some}
 use lib.ListN.{get_elem?}
 
@@ -15,13 +15,19 @@ pub record Known : Type 0 where
 abbrev pub known_at : ℕ → ℕ → Known
 known_at k stand = record { page = k; stand = stand; below = 0 }
 
--- the word that a thread found or wrote last, and of which page that is; another thread may have changed it since
+-- the word that a thread found or wrote last, of which page that is, and whether the thread put the page back at that
+-- step; another thread may have changed the word since
 pub record Met : Type 0 where
   pub page : ℕ
   pub word : ℕ
+  pub put_back : Bool
 
 abbrev pub met_at : ℕ → ℕ → Met
-met_at k word = record { page = k; word = word }
+met_at k word = record { page = k; word = word; put_back = false }
+
+-- who put page k back, which it had, and found or wrote this word at that step
+abbrev pub put_back_at : ℕ → ℕ → Met
+put_back_at k word = record { page = k; word = word; put_back = true }
 
 -- what a thread knows is so
 abbrev pub Stands : List ℕ → Known → Type 0

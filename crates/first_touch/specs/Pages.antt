@@ -5,7 +5,7 @@ use mathlib.Core.Option.{some}
 use lib.ListN.{get_elem?}
 use Rattle.atomic_table.specs.Table.{Me, State, Step}
 use Rattle.first_touch.specs.Asked.{Asked, page_len, slid_page}
-use Rattle.first_touch.specs.Known.{known_at, met_at, AreKnown}
+use Rattle.first_touch.specs.Known.{known_at, met_at, put_back_at, AreKnown}
 use Rattle.first_touch.specs.declared.view.View.{View}
 
 -- what a slot holds: a page of the memory, or nothing
@@ -27,6 +27,10 @@ pub record Holds (asked : Asked) (s : State Slot View) : Type 0 where
 abbrev pub at_page : Asked → ℕ → ℕ → ℕ → View
 at_page asked k stand word = record { about = asked; known = known_at k stand; met = met_at k word }
 
+-- who put page k back, and found or wrote this word at that step: it has no page, and knows of none
+abbrev pub gone_from : Asked → ℕ → ℕ → View
+gone_from asked k word = record { about = asked; known = known_at k 0; met = put_back_at k word }
+
 -- who knows nothing yet
 abbrev pub first_view : Asked → View
 first_view asked = at_page asked 0 0 0
@@ -43,9 +47,11 @@ claims step before found after =
     × (length page.now ≡ page_len before.0.about step.word))
     × (found ≢ 0 → after.0 ≡ at_page before.0.about step.word 0 found)
 
--- who puts a page back has none, and knows of none
+-- Who puts a page back had it until this step, and has none from now on. Only who stores 0 sees 0 here: while a thread
+-- has a page, its word is 1, so that is what each step finds that loads or exchanges it.
 abbrev pub puts_back : Step Slot → Me Slot View → ℕ → Me Slot View → Type 0
-puts_back step before found after = after.0 ≡ at_page before.0.about step.word 0 0
+puts_back step before found after =
+    (before.0.known ≡ known_at step.word 1) × (after.0 ≡ gone_from before.0.about step.word found)
 
 -- the page that was taken from slot k lies there again, and its words are those that slide there
 abbrev pub IsSlidThere : Asked → ℕ → List (ℕ × Slot) → Type 0

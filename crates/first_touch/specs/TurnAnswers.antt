@@ -2,7 +2,8 @@
 use Rattle.std.specs.Prelude.{◌≡◌, ◌≢◌, ℕ, ◌<◌, ◌≤◌, List}
 use Rattle.stopped_heap.specs.declared.fault.SlideFault.TheVariants as slide
 use Rattle.first_touch.specs.Asked.{Asked, page_len, IsPageFault}
-use Rattle.first_touch.specs.Seen.{TurnDesk, page_id, IsSeenBusy}
+use Rattle.first_touch.specs.Seen.{TurnDesk, asked_of, page_id, IsPutBack, IsSeenBusy}
+use Rattle.first_touch.specs.declared.turns.NotFilled.{NotFilled}
 use Rattle.first_touch.specs.declared.turns.NotHad.{NotHad}
 use Rattle.first_touch.specs.declared.turns.NotHad.TheVariants as refusal
 use Rattle.first_touch.specs.declared.turns.TurnFault.{TurnFault}
@@ -18,6 +19,11 @@ IsNotHad turns k (refusal.Busy sight) = (k < turns.pages) × IsSeenBusy turns.id
 abbrev pub IsTurnFault : Asked → ℕ → ℕ → TurnFault → Type 0
 IsTurnFault asked k room (fault.OtherRoom has) = (has ≡ page_len asked k) × (room ≢ has)
 IsTurnFault asked k room (fault.Slide why) = (room ≡ page_len asked k) × IsPageFault asked k why
+
+-- page k was not built out of these words, in a memory of so many words, for this reason, and put back
+pub record IsNotFilled (turns : TurnDesk) (words : List ℕ) (k room : ℕ) (refused : NotFilled) : Type 0 where
+  pub fault : IsTurnFault (asked_of turns words) k room refused.fault
+  pub back : IsPutBack turns.id k refused.sight
 
 -- after these faults the memory is as it was; after the others some of its words are written
 abbrev pub IsAsItWas : TurnFault → List ℕ → List ℕ → Type 0

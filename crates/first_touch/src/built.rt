@@ -47,7 +47,8 @@ impl<'m> Model for Home<'m> {
 }
 
 /// What this thread saw of a page at a step. It says nothing of later, and has no bytes. Contracts see which page that
-/// is, and its word: 0 if it waited, 1 if a thread had it, and 2 if it was home.
+/// is, its word, which is 0 if it waited, 1 if a thread had it, and 2 if it was home, and whether this thread put the
+/// page back at that step.
 #[derive(Drop)]
 pub struct Sight<'m> {
     pub(crate) seat: Seat<Option<&'m mut [u64]>, View>,

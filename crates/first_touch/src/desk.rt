@@ -27,9 +27,17 @@ pub enum NotBuilt<'m> {
     Home(Home<'m>),
     /// Another thread has it, or had it a moment ago: when this thread looked, it did not wait. Ask again.
     Busy(Sight<'m>),
-    /// The words of from-space are not those of the survey, for this reason. The page waits again, and some of its
-    /// words in to-space may be written.
-    Refused(SlideFault),
+    /// It was refused, and waits again.
+    Refused(Refused<'m>),
+}
+
+/// A page that was refused, since the words of from-space are not those of the survey: for which reason, and what this
+/// thread saw at the step at which it put the page back. From then on the page waits again, for any thread. Some of its
+/// words in to-space may be written.
+#[derive(Drop)]
+pub struct Refused<'m> {
+    pub fault: SlideFault,
+    pub sight: Sight<'m>,
 }
 
 /// A desk that was ended: all its pages are home. Contracts see the desk as it was.
@@ -197,15 +205,16 @@ impl<'m> Desk<'m> {
         match tried {
             Ok(()) => Ok(Built { taken }),
             Err(fault) => {
-                self.pages.put_back(taken, page);
-                Err(NotBuilt::Refused(fault))
+                let sight = self.pages.put_back(taken, page);
+                Err(NotBuilt::Refused(Refused { fault, sight }))
             }
         }
     }
 
     /// Builds a page, which this thread then has alone, until it publishes it. Any threads may call it at the same
     /// time. It tries once to take the page. Err if there is no such page, if it is home, if another thread has it, or
-    /// if the words are not those of the survey, in this order. The desk is then as it was.
+    /// if the words are not those of the survey, in this order. The desk is then as it was: a page that is refused waits
+    /// again.
     pub fn touch(&self, page: usize) -> Result<Built<'m>, NotBuilt<'m>>
         ensures inside { OnOk result (page < self.now.pages) }
         ensures built { IfOk result (λ built. built ≡ built_page self.now page) }

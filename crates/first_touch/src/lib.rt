@@ -12,8 +12,8 @@
 //!
 //! `end` gives what the survey found back, once all pages are home. From-space is never written. At most one thread has
 //! a page at a time, and a page that is home is never built again. If from-space is not as it was surveyed, a page may
-//! be refused: it then waits again, and only a page that was built is published. If a `Built`, a `Turn` or a `Filled`
-//! is dropped, its page never comes home.
+//! be refused: the thread that had it puts it back, and it waits again. Only a page that was built is published. If a
+//! `Built`, a `Turn` or a `Filled` is dropped, its page never comes home.
 //!
 //! Any threads may make these calls at the same time. `begin` allocates, and `end` frees. No other call allocates,
 //! frees, takes a lock, waits for a thread, or tries a step again, so a handler of a signal may make them. It may not
@@ -56,8 +56,8 @@ mod turns;
 mod view;
 
 pub use built::{Built, Home, Published, Sight};
-pub use desk::{Desk, Ended, NotBuilt, NotEnded};
+pub use desk::{Desk, Ended, NotBuilt, NotEnded, Refused};
 pub use laws::{page_is_collected, pages_are_whole};
-pub use not_begun::{BeginFault, NotBegun};
+pub use not_begun::{BeginFault, NotBegun, NotBegunTurns};
 pub use turn::{Filled, HomeTurn, Turn, TurnSight};
-pub use turns::{EndedTurns, NotEndedTurns, NotHad, TurnFault, Turns};
+pub use turns::{AllHome, EndedTurns, NotEndedTurns, NotFilled, NotHad, NotHome, TurnFault, Turns};

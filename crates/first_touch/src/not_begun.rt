@@ -1,4 +1,5 @@
 //! Why a slide is not begun.
+use std::sync::Arc;
 use stopped_heap::Places;
 
 /// Why a slide is not begun: the first of these that is so.
@@ -12,9 +13,16 @@ pub enum BeginFault {
     OutOfMemory,
 }
 
-/// A refusal of `begin`: why, and what the survey found, which comes back. Nothing was written.
+/// A refusal of `Desk::begin`: why, and what the survey found, which comes back. Nothing was written.
 #[derive(Drop)]
 pub struct NotBegun {
     pub fault: BeginFault,
     pub places: Places,
+}
+
+/// A refusal of `Turns::begin`: why, and the share of what the survey found, which comes back.
+#[derive(Drop)]
+pub struct NotBegunTurns {
+    pub fault: BeginFault,
+    pub places: Arc<Places>,
 }

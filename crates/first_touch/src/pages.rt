@@ -4,7 +4,7 @@ ghost use Rattle.first_touch.specs.Asked.{page_len, slid_page, IsCutIn};
 ghost use Rattle.first_touch.specs.Pages.{at_page};
 ghost use Rattle.first_touch.specs.Having.{HasPage, IsFree};
 ghost use Rattle.first_touch.specs.Homes.{AreAllHome};
-ghost use Rattle.first_touch.specs.Seen.{page_id, IsSeenBusy, IsSeenAway};
+ghost use Rattle.first_touch.specs.Seen.{page_id, IsPutBack, IsSeenBusy, IsSeenAway};
 
 use crate::built::{Home, Published, Sight, Taken};
 use crate::rows::rows;
@@ -84,10 +84,11 @@ impl<'m> Pages<'m> {
     }
 
     /// Puts a page back. It waits again.
-    pub(crate) fn put_back(&self, taken: Taken<'m>, k: usize)
+    pub(crate) fn put_back(&self, taken: Taken<'m>, k: usize) -> Sight<'m>
         requires inside { k < (pages_id self.now).words }
         requires has { HasPage (pages_asked self.now) (pages_id self.now) k taken }
         requires len { length taken.page.now ≡ page_len (pages_asked self.now) k }
+        ensures { IsPutBack (pages_id self.now) k result }
     {
         let Taken {
             mut seat,
@@ -96,6 +97,7 @@ impl<'m> Pages<'m> {
         } = taken;
         let _none = self.table.shared.exchange(&mut seat, k, Some(page));
         self.table.shared.store::<PutBack>(&mut seat, k, 0);
+        Sight { seat }
     }
 
     /// Says that a page is home, and hands it out. At this step its words are those that slide there, or the prover

@@ -1,12 +1,13 @@
 //! Pages, beside what slides at once.
 ghost use Rattle.std.specs.Prelude.{◌≡◌, true, IfSome};
 ghost use Rattle.first_touch.specs.Asked.{slid_page};
-ghost use Rattle.first_touch.specs.Seen.{asked_of};
+ghost use Rattle.first_touch.specs.Seen.{asked_of, IsPutBack};
 
-use crate::{Desk, Turns};
+use crate::{Desk, NotBuilt, Sight, Turn, TurnSight, Turns};
 use heap_layout::{Edition, FROM_SPACE as F};
 use std::alloc::{AllocError, Global};
 use std::process::Abort;
+use std::sync::Arc;
 use std::thread;
 use std::thread::Threads;
 use stopped_heap::{Places, Survey};
@@ -43,6 +44,16 @@ fn page_of<'m>(desk: &Desk<'m>, page: usize) -> Option<&'m mut [u64]>
     }
 }
 
+// What a thread saw of a page of a desk that is refused, by what its calls promise.
+fn refused_of<'m>(desk: &Desk<'m>, page: usize) -> Option<Sight<'m>>
+    ensures { IfSome result (IsPutBack desk.now.id page) }
+{
+    match desk.touch(page) {
+        Err(NotBuilt::Refused(refused)) => Some(moved(refused).sight),
+        _ => None,
+    }
+}
+
 // What was found comes back from a desk that is ended.
 fn found_at_the_end(desk: Desk<'_>) -> Option<Places>
     ensures { IfSome result (λ places. places ≡ desk.entry.asked.found) }
@@ -69,9 +80,20 @@ fn fill(turns: &Turns, page: usize, words: &[u64], part: &mut [u64]) -> bool
     }
 }
 
+// What a thread saw of a page of turns that is refused, by what their calls promise.
+fn refused_turn(turns: &Turns, turn: Turn, words: &[u64], part: &mut [u64]) -> Option<TurnSight>
+    requires { turn.desk ≡ turns.now.id }
+    ensures { IfSome result (IsPutBack turns.now.id turn.page) }
+{
+    match turns.build(turn, words, part) {
+        Ok(_) => None,
+        Err(refused) => Some(moved(refused).sight),
+    }
+}
+
 // What was found comes back from turns that are ended.
-fn found_of(turns: Turns) -> Option<Places>
-    ensures { IfSome result (λ places. places ≡ turns.found) }
+fn found_of(turns: Turns) -> Option<Arc<Places>>
+    ensures { IfSome result (λ places. places.value ≡ turns.found) }
 {
     match turns.end() {
         Ok(ended) => Some(ended.into_places()),
@@ -89,6 +111,14 @@ fn moved<T: Send>(value: T) -> T
     ensures { result ≡ value }
 {
     value
+}
+
+// Whether a page of turns waits and is refused.
+fn is_refused(turns: &Turns, page: usize, words: &[u64], part: &mut [u64]) -> bool {
+    match turns.claim(page) {
+        Ok(turn) => refused_turn(turns, turn, words, part).is_some(),
+        Err(_) => false,
+    }
 }
 
 // Touches each `step`-th page.
@@ -131,6 +161,25 @@ fn pages_that_are_touched_are_the_collected_heap(rt: HostRuntime) {
         Err(_) => panic!(&rt; "a desk"),
     }
     assert_eq!(rt; to, wanted);
+}
+
+#[test]
+fn a_page_that_is_refused_waits_again(rt: HostRuntime) {
+    let alloc = rt.alloc();
+    let mut words = tree(alloc, 1000).expect(&rt, "words");
+    let places = found(&rt, &words);
+    let mut to = vec![in alloc; 7u64; places.live_words() as usize].expect(&rt, "words");
+    assert_eq!(rt; words.len() > 3, true);
+    // The first object is another one.
+    words[3] = 1 << 40;
+    match Desk::begin(alloc, places, &words, &mut to, 64) {
+        Ok(desk) => {
+            assert_eq!(rt; refused_of(&desk, 0).is_some(), true);
+            assert_eq!(rt; refused_of(&desk, 0).is_some(), true);
+            assert_eq!(rt; page_of(&desk, 1).is_some(), true);
+        }
+        Err(_) => panic!(&rt; "a desk"),
+    }
 }
 
 // Touches all pages, by so many threads, each from a page of its own on. Answers how many each thread built.
@@ -199,6 +248,7 @@ fn pages_that_are_lent_at_each_call_are_the_collected_heap(rt: HostRuntime) {
     let places = found(&rt, &words);
     let wanted = slid_at_once(&rt, &places, &words);
     let mut to = vec![in alloc; 7u64; wanted.len()].expect(&rt, "words");
+    let places = Arc::new(alloc, places).expect(&rt, "a share");
     let turns = match Turns::begin(alloc, places, 100) {
         Ok(turns) => turns,
         Err(_) => panic!(&rt; "turns"),
@@ -208,6 +258,7 @@ fn pages_that_are_lent_at_each_call_are_the_collected_heap(rt: HostRuntime) {
     crosses(&turns);
     let header = words[3];
     words[3] = 1 << 40;
+    assert_eq!(rt; is_refused(&turns, 0, &words, &mut to), true);
     let _ = fill_all(&turns, &words, &mut to, 100);
     words[3] = header;
     assert_eq!(rt; fill_all(&turns, &words, &mut to, 100), 1);

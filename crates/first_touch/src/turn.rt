@@ -1,4 +1,6 @@
 //! Turns that threads have, and what threads know of pages.
+ghost use Rattle.std.specs.Prelude.{◌≡◌};
+
 use crate::turn_view::TurnView;
 use atomic_table::Seat;
 use std::marker::Model;
@@ -22,6 +24,15 @@ impl Model for Turn {
     ghost invariant = { λ turn. IsTurn turn.k turn.seat };
 }
 
+impl Turn {
+    /// Which page that is.
+    pub fn page(&self) -> usize
+        ensures { result ≡ self.now.page }
+    {
+        self.k
+    }
+}
+
 /// The right to publish a page that was built, which this thread has alone. If this is dropped, the page never comes
 /// home. Contracts see which page that is.
 #[derive(Drop)]
@@ -39,6 +50,15 @@ impl Model for Filled {
     ghost view = { λ filled. page_id filled.seat.table_id filled.k };
 
     ghost invariant = { λ filled. IsTurn filled.k filled.seat };
+}
+
+impl Filled {
+    /// Which page that is.
+    pub fn page(&self) -> usize
+        ensures { result ≡ self.now.page }
+    {
+        self.k
+    }
 }
 
 /// The knowledge that a page is home, and stays so. It has no bytes. Contracts see which page that is.
@@ -59,7 +79,8 @@ impl Model for HomeTurn {
 }
 
 /// What this thread saw of a page at a step. It says nothing of later, and has no bytes. Contracts see which page that
-/// is, and its word: 0 if it waited, 1 if a thread had it, and 2 if it was home.
+/// is, its word, which is 0 if it waited, 1 if a thread had it, and 2 if it was home, and whether this thread put the
+/// page back at that step.
 #[derive(Drop)]
 pub struct TurnSight {
     pub(crate) seat: Seat<(), TurnView>,

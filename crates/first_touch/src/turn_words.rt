@@ -3,7 +3,7 @@ ghost use Rattle.std.specs.Prelude.{◌≡◌, ◌≢◌, ◌<◌, ◌≤◌, �
 ghost use Rattle.first_touch.specs.Turning.{at_page};
 ghost use Rattle.first_touch.specs.Homes.{AreAllHome};
 ghost use Rattle.first_touch.specs.TurnHaving.{HasTurn, IsFree, KnowsTurn};
-ghost use Rattle.first_touch.specs.Seen.{IsSeenBusy, IsSeenAway};
+ghost use Rattle.first_touch.specs.Seen.{IsPutBack, IsSeenBusy, IsSeenAway};
 
 use crate::turn::TurnSight;
 use crate::turn_rule::{ClaimTurn, LookTurn, PublishTurn, PutBackTurn, TurnRule, WalkTurn};
@@ -70,11 +70,13 @@ impl TurnWords {
     }
 
     /// Puts page `k` back. It waits again.
-    pub(crate) fn put_back(&self, mut seat: Seat<(), TurnView>, k: usize)
+    pub(crate) fn put_back(&self, mut seat: Seat<(), TurnView>, k: usize) -> TurnSight
         requires inside { k < (words_id self.now).words }
         requires has { HasTurn (words_id self.now) k seat }
+        ensures { IsPutBack (words_id self.now) k result }
     {
         self.table.shared.store::<PutBackTurn>(&mut seat, k, 0);
+        TurnSight { seat }
     }
 
     /// Says that page `k` is home.

@@ -1,11 +1,11 @@
 //! The turns, from their beginning to their end: who builds which page, where both spaces lie with the caller.
 ghost use Rattle.std.specs.Prelude.{◌≡◌, ◌<◌, length, IfErr, IfOk, OnOk};
 ghost use Rattle.first_touch.specs.Asked.{slid_page, IsCut};
-ghost use Rattle.first_touch.specs.Beginning.{AreBegun, IsNotBegun};
-ghost use Rattle.first_touch.specs.Seen.{asked_of, page_id, IsSeenAway};
-ghost use Rattle.first_touch.specs.TurnAnswers.{IsNotHad, IsTurnFault, IsAsItWas};
+ghost use Rattle.first_touch.specs.Beginning.{AreBegun, AreNotBegun};
+ghost use Rattle.first_touch.specs.Seen.{asked_of, page_id, IsPutBack, IsSeenAway};
+ghost use Rattle.first_touch.specs.TurnAnswers.{IsNotHad, IsNotFilled, IsAsItWas};
 
-use crate::not_begun::{BeginFault, NotBegun};
+use crate::not_begun::{BeginFault, NotBegunTurns};
 use crate::rows::page_size;
 use crate::turn::{Filled, HomeTurn, Turn, TurnSight};
 use crate::turn_view::TurnView;
@@ -14,6 +14,7 @@ use atomic_table::Seat;
 use std::alloc::Global;
 use std::marker::Model;
 use std::snapshot::Snapshot;
+use std::sync::Arc;
 use stopped_heap::{Places, SlideFault};
 
 /// Why a call did not get a page, in the order in which it looks. The turns are as they were.
@@ -27,7 +28,7 @@ pub enum NotHad {
     Busy(TurnSight),
 }
 
-/// Why a page was not built, in the order in which the call looks. The turn is gone, and the page waits again.
+/// Why a page was not built, in the order in which the call looks.
 #[derive(Clone, Copy, Debug, PartialEq, Eq)]
 pub enum TurnFault {
     /// The page has so many words, and not as many as were lent. The memory is as it was.
@@ -37,10 +38,43 @@ pub enum TurnFault {
     Slide(SlideFault),
 }
 
+/// A page that was not built: why, and what this thread saw at the step at which it put the page back. The turn is gone,
+/// and from that step on the page waits again, for any thread.
+#[derive(Drop)]
+pub struct NotFilled {
+    pub fault: TurnFault,
+    pub sight: TurnSight,
+}
+
+/// The knowledge that all pages of turns are home, and stay so. It takes no memory. Contracts see which turns.
+#[derive(Drop)]
+pub struct AllHome {
+    pub(crate) seat: Option<Seat<(), TurnView>>,
+    pub(crate) turns: Snapshot<Turns>,
+}
+
+impl Model for AllHome {
+    ghost use Rattle.atomic_table.specs.Seated.{TableId};
+    ghost use Rattle.first_touch.specs.Homes.{AreAllHome};
+
+    ghost Value = { TableId };
+
+    ghost view = { λ home. home.turns.value.id };
+
+    ghost invariant = { λ home. AreAllHome (λ view. view.known) home.turns.value.id home.seat };
+}
+
+/// This page was not home when this thread looked.
+#[derive(Drop)]
+pub struct NotHome {
+    pub page: usize,
+    pub sight: TurnSight,
+}
+
 /// Turns that were ended: all their pages are home. Contracts see the turns as they were.
 #[derive(Drop)]
 pub struct EndedTurns {
-    pub(crate) places: Places,
+    pub(crate) places: Arc<Places>,
     pub(crate) seat: Option<Seat<(), TurnView>>,
     pub(crate) turns: Snapshot<Turns>,
 }
@@ -54,14 +88,14 @@ impl Model for EndedTurns {
 
     ghost view = { λ ended. ended.turns.value };
 
-    ghost invariant = { λ ended. (ended.places ≡ ended.turns.value.found)
+    ghost invariant = { λ ended. (ended.places.value ≡ ended.turns.value.found)
         × AreAllHome (λ view. view.known) ended.turns.value.id ended.seat };
 }
 
 impl EndedTurns {
-    /// What the survey found.
-    pub fn into_places(self) -> Places
-        ensures { result ≡ self.found }
+    /// The share of what the survey found.
+    pub fn into_places(self) -> Arc<Places>
+        ensures { result.value ≡ self.found }
     {
         let EndedTurns {
             places,
@@ -81,12 +115,12 @@ pub struct NotEndedTurns {
     pub sight: TurnSight,
 }
 
-/// Who builds which page of a slide. It has nothing of from-space nor of to-space: the caller lends words and page to
-/// each build. Threads may share it, by reference or in an `Arc`. Contracts see what the survey found, how many words a
-/// page has, how many pages there are, and which turns they are.
+/// Who builds which page of a slide. It has a share of what the survey found, and nothing of from-space nor of to-space:
+/// the caller lends words and page to each build. Threads may share it, by reference or in an `Arc`. Contracts see what
+/// the survey found, how many words a page has, how many pages there are, and which turns they are.
 #[derive(Drop)]
 pub struct Turns {
-    pub(crate) places: Places,
+    pub(crate) places: Arc<Places>,
     pub(crate) size: usize,
     pub(crate) words: TurnWords,
 }
@@ -100,13 +134,13 @@ impl Model for Turns {
     ghost Value = { TurnDesk };
 
     ghost view = { λ turns. record {
-      found = turns.places;
+      found = turns.places.value;
       size = turns.size;
       pages = (words_id turns.words).words;
       id = words_id turns.words;
     } };
 
-    ghost invariant = { λ turns. IsCut (length turns.places.indices) turns.size (words_id turns.words).words };
+    ghost invariant = { λ turns. IsCut (length turns.places.value.indices) turns.size (words_id turns.words).words };
 }
 
 // How many pages of this size so many words have.
@@ -123,17 +157,17 @@ fn count_pages(live: usize, size: usize) -> usize
 
 impl Turns {
     /// Begins to slide a heap of which the survey found this, in pages of so many words. It takes 8 bytes a page, and as
-    /// many more until it returns. Err if a page has no words, or if memory runs out, in this order; then what was found
-    /// comes back.
-    pub fn begin(alloc: Global, places: Places, size: usize) -> Result<Turns, NotBegun>
-        ensures begun { IfOk result (AreBegun places size) }
-        ensures refused { IfErr result (IsNotBegun places (length places.indices) size) }
+    /// many more until it returns. Err if a page has no words, or if memory runs out, in this order; then the share of
+    /// what was found comes back.
+    pub fn begin(alloc: Global, places: Arc<Places>, size: usize) -> Result<Turns, NotBegunTurns>
+        ensures begun { IfOk result (AreBegun places.value size) }
+        ensures refused { IfErr result (AreNotBegun places.value size) }
     {
         if size == 0 {
             let fault = BeginFault::NoSize;
-            return Err(NotBegun { fault, places });
+            return Err(NotBegunTurns { fault, places });
         }
-        let pages = count_pages(places.live_words() as usize, size);
+        let pages = count_pages((&*places).live_words() as usize, size);
         match TurnWords::new(alloc, pages) {
             Ok(words) => Ok(Turns {
                 places,
@@ -142,7 +176,35 @@ impl Turns {
             }),
             Err(_) => {
                 let fault = BeginFault::OutOfMemory;
-                Err(NotBegun { fault, places })
+                Err(NotBegunTurns { fault, places })
+            }
+        }
+    }
+
+    /// Begins turns that threads share. It takes a few bytes more, and is refused like `begin`.
+    pub fn begin_shared(
+        alloc: Global,
+        places: Arc<Places>,
+        size: usize,
+    ) -> Result<Arc<Turns>, NotBegunTurns>
+        ensures begun { IfOk result (λ turns. AreBegun places.value size turns.value) }
+        ensures refused { IfErr result (AreNotBegun places.value size) }
+    {
+        let turns = match Turns::begin(alloc, places, size) {
+            Ok(turns) => turns,
+            Err(refused) => return Err(refused),
+        };
+        match Arc::new(alloc, turns) {
+            Ok(turns) => Ok(turns),
+            Err(left) => {
+                let Turns {
+                    places,
+                    size: _,
+                    words,
+                } = left.value;
+                drop(words);
+                let fault = BeginFault::OutOfMemory;
+                Err(NotBegunTurns { fault, places })
             }
         }
     }
@@ -175,30 +237,39 @@ impl Turns {
         }
     }
 
+    // Puts the page back for which this is the turn, for this reason.
+    fn refuse(&self, turn: Turn, fault: TurnFault) -> NotFilled
+        requires { turn.desk ≡ self.now.id }
+        ensures fault { result.fault ≡ fault }
+        ensures back { IsPutBack self.now.id turn.page result.sight }
+    {
+        let Turn { seat, k } = turn;
+        let sight = self.words.put_back(seat, k);
+        NotFilled { fault, sight }
+    }
+
     /// Builds the page for which this is the turn: fills `part`, which is its memory, with the words that slide there
     /// out of `words`, which are those of from-space. Err if `part` has not as many words as the page, or if the words
     /// are not those of the survey; then the turn is gone, and the page waits again.
-    pub fn build(&self, turn: Turn, words: &[u64], part: &mut [u64]) -> Result<Filled, TurnFault>
+    pub fn build(&self, turn: Turn, words: &[u64], part: &mut [u64]) -> Result<Filled, NotFilled>
         requires { turn.desk ≡ self.now.id }
         ensures filled { IfOk result (λ filled. filled ≡ turn) }
         ensures slid { OnOk result (part.new ≡ slid_page (asked_of self.now words.now) turn.page) }
-        ensures fault { IfErr result (IsTurnFault (asked_of self.now words.now) turn.page (length part.old)) }
-        ensures stays { IfErr result (λ fault. IsAsItWas fault part.old part.new) }
+        ensures refused { IfErr result (IsNotFilled self.now words.now turn.page (length part.old)) }
+        ensures stays { IfErr result (λ refused. IsAsItWas refused.fault part.old part.new) }
     {
-        let Turn { seat, k } = turn;
-        let live = self.places.live_words() as usize;
-        let first = k * self.size;
+        let live = (&*self.places).live_words() as usize;
+        let first = turn.k * self.size;
         let room = page_size(self.size, live - first);
         if part.len() != room {
-            self.words.put_back(seat, k);
-            return Err(TurnFault::OtherRoom(room as u64));
+            return Err(self.refuse(turn, TurnFault::OtherRoom(room as u64)));
         }
-        match self.places.try_slide(words, first as u64, part) {
-            Ok(()) => Ok(Filled { seat, k }),
-            Err(fault) => {
-                self.words.put_back(seat, k);
-                Err(TurnFault::Slide(fault))
+        match (&*self.places).try_slide(words, first as u64, part) {
+            Ok(()) => {
+                let Turn { seat, k } = turn;
+                Ok(Filled { seat, k })
             }
+            Err(fault) => Err(self.refuse(turn, TurnFault::Slide(fault))),
         }
     }
 
@@ -213,6 +284,42 @@ impl Turns {
         }
     }
 
+    /// Knows that all pages are home. Err with one that was not when this thread looked. Any threads may call it at the
+    /// same time.
+    pub fn all_home(&self) -> Result<AllHome, NotHome>
+        ensures home { IfOk result (λ home. home ≡ self.now.id) }
+        ensures inside { IfErr result (λ refused. refused.page < self.now.pages) }
+        ensures away { IfErr result (λ refused. IsSeenAway self.now.id refused.page refused.sight) }
+    {
+        match self.words.all_home() {
+            Ok(seat) => {
+                let turns = Snapshot::of(self);
+                Ok(AllHome { seat, turns })
+            }
+            Err((page, sight)) => Err(NotHome { page, sight }),
+        }
+    }
+
+    /// Ends turns of which all pages are known to be home.
+    pub fn end_home(self, home: AllHome) -> EndedTurns
+        requires { home ≡ self.id }
+        ensures { result ≡ self }
+    {
+        let turns = Snapshot::of(&self);
+        let Turns {
+            places,
+            size: _,
+            words,
+        } = self;
+        drop(words);
+        let AllHome { seat, turns: _ } = home;
+        EndedTurns {
+            places,
+            seat,
+            turns,
+        }
+    }
+
     /// Ends the turns, once all pages are home. Err with the turns, as they were, if a page is not home.
     pub fn end(self) -> Result<EndedTurns, NotEndedTurns>
         ensures ended { IfOk result (λ ended. ended ≡ self) }
@@ -220,22 +327,9 @@ impl Turns {
         ensures away { IfErr result (λ refused. IsSeenAway self.id refused.page refused.sight) }
         ensures turns { IfErr result (λ refused. refused.turns ≡ self) }
     {
-        match self.words.all_home() {
-            Ok(seat) => {
-                let turns = Snapshot::of(&self);
-                let Turns {
-                    places,
-                    size: _,
-                    words,
-                } = self;
-                drop(words);
-                Ok(EndedTurns {
-                    places,
-                    seat,
-                    turns,
-                })
-            }
-            Err((page, sight)) => Err(NotEndedTurns {
+        match self.all_home() {
+            Ok(home) => Ok(self.end_home(home)),
+            Err(NotHome { page, sight }) => Err(NotEndedTurns {
                 page,
                 turns: self,
                 sight,
