@@ -1,4 +1,7 @@
 pub mod Steps
 pub mod Emptied
 pub mod Leading
-pub mod Marking
+pub mod OneFound
+pub mod Growing
+pub mod MarkedMore
+pub mod Taking

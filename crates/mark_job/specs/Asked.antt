@@ -1,14 +1,24 @@
 -- The heap that a job marks.
-use Rattle.std.specs.Prelude.{ℕ, List, All}
+use Rattle.std.specs.Prelude.{◌≡◌, ℕ, ◌⊎◌, List, All}
 use Rattle.heap_layout.specs.declared.edition.Edition.{Edition}
-use Rattle.stopped_heap.specs.Reached.{AreReached, IsReachedFrom}
+use Rattle.stopped_heap.specs.Reached.{AreFew, AreReached, IsFaultOf, IsReachedFrom}
 use Rattle.stopped_heap.specs.Places.{Found, IsFoundOf}
+use Rattle.stopped_heap.specs.declared.fault.SurveyFault.{SurveyFault}
+use Rattle.stopped_heap.specs.declared.fault.SurveyFault.TheVariants.{TooLarge, OutOfMemory}
 
 -- the heap whose words and roots these are
 pub record Asked : Type 0 where
   pub edition : Edition
   pub words : List ℕ
   pub roots : List ℕ
+
+-- it has not more words and roots than its edition allows
+abbrev pub IsSmall : Asked → Type 0
+IsSmall asked = AreFew asked.edition asked.words asked.roots
+
+-- Why no job begins for it: it is too large; or it is not, and memory ran out. Nothing else is looked at.
+abbrev pub IsBeginFault : Asked → SurveyFault → Type 0
+IsBeginFault asked fault = ((fault ≡ TooLarge) ⊎ (fault ≡ OutOfMemory)) × IsFaultOf asked.edition asked.words asked.roots fault
 
 -- its roots reach the object at index i
 abbrev pub IsMetIn : Asked → ℕ → Type 0

@@ -12,13 +12,13 @@ use std::alloc::{AllocError, Global};
 use std::sync::atomic::{AtomicU64, Ordering};
 
 /// At how many objects a call looks.
-const BATCH: usize = 1024;
+pub(crate) const BATCH: usize = 1024;
 
 /// A lane where fewer objects wait is not parted.
-const FEW: usize = 32;
+pub(crate) const FEW: usize = 32;
 
 /// How many objects are moved at once into another lane.
-const MOST_MOVED: usize = 8192;
+pub(crate) const MOST_MOVED: usize = 8192;
 
 /// The lanes; the bits of the words whose objects were put into one; how many objects wait in each lane, as the helper
 /// said that had it last; how many wait in all, those that helpers have among them; and 1 if a helper gave up.
@@ -32,8 +32,8 @@ pub struct Desk {
     ghost sized: { length sizes.items ≡ 64 },
 }
 
-// So many words, which are 0.
-fn zeros(alloc: Global, count: usize) -> Result<Vec<AtomicU64>, AllocError>
+/// So many words, which are 0.
+pub(crate) fn zeros(alloc: Global, count: usize) -> Result<Vec<AtomicU64>, AllocError>
     ensures { IfOk result (λ words. length words.items ≡ count) }
 {
     let mut words = Vec::with_capacity(alloc, count)?;

@@ -1,7 +1,7 @@
 //! A job, from its beginning to its end.
 ghost use Rattle.std.specs.Prelude.{◌≡◌, IfErr, IfOk};
 ghost use Rattle.stopped_heap.specs.Reached.{IsFaultOf};
-ghost use Rattle.mark_job.specs.Asked.{IsMarkedOf};
+ghost use Rattle.mark_job.specs.Asked.{IsBeginFault, IsMarkedOf, IsSmall};
 
 use crate::desk::Desk;
 use crate::ended::{Ended, NotBegun};
@@ -36,8 +36,8 @@ impl Model for Job {
 impl Job {
     /// Begins to mark what these roots reach in these words. The job keeps both until it is finished. Of the heap it
     /// looks at the roots alone. It takes a bit for each word, and in the course of the job 4 bytes for each object
-    /// that is met. Err if there are too many words or roots for the edition, or memory runs out; then the words and
-    /// roots come back. A fault of the heap comes out at the end.
+    /// that is met. Err with `TooLarge` if there are too many words or roots for the edition; if not, with `OutOfMemory`,
+    /// if memory runs out; then the words and roots come back. A fault of the heap comes out at the end.
     pub fn begin(
         alloc: Global,
         edition: Edition,
@@ -45,7 +45,8 @@ impl Job {
         roots: Vec<u64>,
     ) -> Result<Job, NotBegun>
         ensures asked { IfOk result (λ job. job ≡ record { edition = edition; words = words.items; roots = roots.items }) }
-        ensures fault { IfErr result (λ refused. IsFaultOf edition words.items roots.items refused.fault) }
+        ensures few { IfOk result IsSmall }
+        ensures fault { IfErr result (λ refused. IsBeginFault (record { edition = edition; words = words.items; roots = roots.items }) refused.fault) }
         ensures words { IfErr result (λ refused. refused.words.items ≡ words.items) }
         ensures roots { IfErr result (λ refused. refused.roots.items ≡ roots.items) }
     {

@@ -59,6 +59,18 @@ impl Lane {
         }
     }
 
+    /// The same, and nothing is said of the objects.
+    pub(crate) fn give_half(&mut self, to: &mut Lane, most: usize) {
+        let count = (self.waiting() / 2).min(most);
+        for _ in 0..count {
+            let len = self.objects.len();
+            if len == 0 || to.objects.push(self.objects[len - 1]).is_err() {
+                return;
+            }
+            self.objects.pop();
+        }
+    }
+
     /// Sets the bits of its objects.
     pub(crate) fn mark(&self, image: &Image, heads: &mut [u64])
         requires lane { AreMetIn image.now self.now }

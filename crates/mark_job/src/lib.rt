@@ -14,10 +14,20 @@
 //! The rule that holds between any two atomic steps says that the roots reach the objects in the lanes. That these are
 //! all is asked of the words when the job is finished: the roots, and the references of the objects that were met, must
 //! lead to objects that were met. If not, the thread that finishes the job surveys the heap alone.
+//!
+//! A `Marking` copies no words: they are lent at each call, and nothing is believed of them between two calls. Its
+//! helpers set two bits a word, of the first words of the objects that were met, and of all words of those at which they
+//! looked, and its end takes these bits as `Places::of_bits` does. What the end would ask of the words, a slide by
+//! `Places::try_slide` asks. So other threads may go on beside it, if they hand what they write over, and what is new,
+//! to `Marking::meet`. The bits of the objects that were met only grow: this is the rule of their table, and a `Met` is
+//! what a thread knows of it.
 #![tactic(auto)]
 
 mod desk;
 mod ended;
+mod following;
+mod free_lanes;
+mod heads;
 mod help;
 mod image;
 mod job;
@@ -25,13 +35,22 @@ mod lane;
 mod lanes;
 mod laws;
 mod looking;
+mod marking;
+mod marking_fault;
+#[cfg(test)]
+mod marking_tests;
+mod met_view;
 mod rule;
 mod surveying;
 #[cfg(test)]
 mod tests;
 mod view;
+mod waiting;
 
 pub use ended::{Ended, NotBegun};
+pub use heads::Met;
 pub use help::Help;
 pub use job::Job;
 pub use laws::found_is_one;
+pub use marking::Marking;
+pub use marking_fault::{MarkingEnd, MarkingFault, MeetFault, WrongLength};

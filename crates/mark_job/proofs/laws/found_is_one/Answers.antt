@@ -1,4 +1,4 @@
-use Rattle.mark_job.proofs.Marking.{one-found}
+use Rattle.mark_job.proofs.OneFound.{one-found}
 use Rattle.mark_job.proofs.laws.found_is_one.Goals as goal
 
 pub returns : goal.returns

@@ -3,7 +3,7 @@ use Rattle.std.proofs.lemmas.Bool.{both_ways}
 use Rattle.heap_layout.specs.Bits.{bit}
 use Rattle.stopped_heap.specs.Reached.{AreReached, IsSound}
 use Rattle.stopped_heap.specs.Surveys.{with_roots}
-use Rattle.mark_job.proofs.Marking.{all-met, marked-of, sound-moved}
+use Rattle.mark_job.proofs.OneFound.{all-met, marked-of, sound-moved}
 use Rattle.mark_job.proofs.surveying.survey_marked.Goals as goal
 
 pub mark-requires-clause-met : goal.mark-requires-clause-met

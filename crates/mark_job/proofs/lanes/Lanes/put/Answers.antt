@@ -17,5 +17,5 @@ store-requires c =
       c.exchange-empty.ensures.0 ∙ c.requires.out.same,
       omega (arith, taken.inside, c.args.self.now.words),
       subst (λ (m : Me (List ℕ) View). Allows (Holds table.key) table.table_id.slots seat.id m k (λ _. 0) (λ _. puts (step table.table_id.slots k 0 0 none) m 0)) (sym me)
-          (put-allowed table.key table.table_id.slots seat.id k taken.seat.me.0 taken.lane (omega (arith, taken.inside, c.args.self.now.slots)) (subst (λ (asked : Asked). AreMetIn asked taken.lane) (sym c.requires.key) c.requires.met)),
+          (put-allowed (AreMetIn table.key) table.table_id.slots seat.id k taken.seat.me.0 taken.lane (omega (arith, taken.inside, c.args.self.now.slots)) (subst (λ (asked : Asked). AreMetIn asked taken.lane) (sym c.requires.key) c.requires.met)),
     )
