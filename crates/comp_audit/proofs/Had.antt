@@ -1,6 +1,6 @@
 -- Faults that a dump has, and those that it does not have: an entry of which a cause holds, and a stamp that no page
 -- has.
-use Rattle.std.proofs.Common.{◌≡◌, ◌∙◌, ℕ, zero, suc, ◌+◌, ◌<◌, ◌⊎◌, true, false, true≢false, inl, inr, List, [], length, map, Option, None, Some, refl, sym, subst, arith}
+use Rattle.std.proofs.Common.{◌≡◌, ◌∙◌, ℕ, zero, suc, ◌+◌, ◌<◌, ◌⊎◌, true, true≢false, inl, inr, List, length, map, Option, None, Some, refl, sym, subst, arith}
 use Rattle.heap_layout.specs.Heap.{Heap}
 use Rattle.comp_dump.specs.Entry.{Entry}
 use Rattle.comp_dump.specs.Dumped.{BuiltPage, Dumped}

@@ -1,7 +1,7 @@
 -- A page without an entry. If its words are those of its base, each reference and weak word there is null, or leads to
 -- a slid object.
 use Rattle.std.proofs.Common.{◌≡◌, ℕ, ◌<◌, ◌⊎◌, inl, inr, ⊎_elim, Bool, true, eqb, not, ◌||◌, is_some, List, [], length, get_or, Option, Some, sym, ap, subst, ◌∙◌, arith}
-use Rattle.std.proofs.lemmas.Bool.{eqb-true, eq-eqb}
+use Rattle.std.proofs.lemmas.Bool.{eqb-true}
 use Rattle.std.proofs.lemmas.List.{get_or_default}
 use Rattle.heap_layout.specs.declared.edition.Edition.{Edition}
 use Rattle.heap_layout.specs.Values.{leads_nowhere, LeadsNowhere}

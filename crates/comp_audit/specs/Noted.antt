@@ -1,7 +1,10 @@
 -- What the audit keeps beside the dump: the starts of new objects, each with the least stamp of a header there; and the
 -- earliest of the late entries so far.
-use Rattle.std.specs.Prelude.{◌≡◌, ℕ, ◌-◌, ◌<◌, ◌||◌, Bool, false, cond, nat_lt, is_some, List, [], length, Option, Some, None, slice_index_or}
+use Rattle.std.specs.Prelude.{◌≡◌, ℕ, ◌<◌, ◌||◌, Bool, false, nat_lt, is_some, List, [], Option, Some, None}
 use Rattle.std.specs.List.{list_any}
+use Rattle.core.specs.Ordering.{nat_cmp}
+use Rattle.std_collections.specs.Map.{lookup}
+use Rattle.std_collections.specs.BTreeMap.{is_at}
 use Rattle.heap_layout.specs.Heap.{Heap}
 use Rattle.comp_journal.specs.declared.entry.Entry.{Entry}
 use Rattle.comp_history.specs.Setup.{Setup}
@@ -16,18 +19,13 @@ use Rattle.comp_audit.specs.declared.checks.setting.Setting.{Setting}
 abbrev pub setup_at : Setting → Setup
 setup_at setting = setup_for setting.plan.now setting.dump.now.fresh setting.dump.now.mutators
 
--- for each word from an address on, the least stamp of a header that was written there
+-- the addresses at which headers were written, rising, each with the least stamp of a header there
 pub record Stamped : Type 0 where
-  pub first : ℕ
-  pub stamps : List (Option ℕ)
+  pub stamps : List (ℕ × ℕ)
 
--- n words from an address on
-abbrev pub Covers : Stamped → ℕ → ℕ → Type 0
-Covers starts first words = (starts.first ≡ first) × (length starts.stamps ≡ words)
-
--- the stamp at an address; None if no header is there, or the address is outside these words
+-- the stamp at an address; None if no header is there
 abbrev pub stamp_at : Stamped → ℕ → Option ℕ
-stamp_at starts a = cond (nat_lt a starts.first) None (slice_index_or starts.stamps (a - starts.first) None)
+stamp_at starts a = lookup (is_at (nat_cmp a)) starts.stamps
 
 abbrev pub is_below : Option ℕ → ℕ → Bool
 is_below None n = false
