@@ -34,9 +34,11 @@ use Rattle.heap_layout.proofs.heap.MarkedHeap.TheSendSync as marked
 use Rattle.comp_crew.proofs.bench.Bench.TheSendSync as bench
 use Rattle.comp_crew.proofs.member.Member.TheSendSync as member
 use Rattle.page_plan.proofs.plan.Plan.TheSendSync as plan
+use Rattle.stopped_heap.proofs.looks.Looks.TheSendSync as looks
 use Rattle.stopped_heap.proofs.places.Places.TheSendSync as found
 use Rattle.stopped_heap.proofs.tables.Tables.TheSendSync as tables
 use Rattle.mark_job.proofs.job.Job.TheSendSync as job
+use Rattle.first_touch.proofs.turns.Turns.TheSendSync as turns
 use denote.Param.Send.{recorded_send, enum_send}
 use denote.Enum.Declared as E
 use denote.Enum.Enum.{Enum}
@@ -45,6 +47,10 @@ use Rattle.std_alloc.specs.contracts.arc.Arc as Arc
 use Rattle.page_plan.specs.contracts.plan.Plan as Plan
 use Rattle.stopped_heap.specs.contracts.places.Places as Places
 use Rattle.mark_job.specs.contracts.job.Job as Job
+use Rattle.first_touch.specs.contracts.turns.Turns as Turns
+use Rattle.comp_handle.specs.contracts.pages.Has as Has
+use Rattle.comp_handle.specs.contracts.pages.Paging as Paging
+use Rattle.comp_handle.proofs.pages.Has.TheSendSync as has
 
 room : (τ : Ty) (p : Ptr) → Keyless (room_for τ p)
 room τ (block_ptr b o) = tt
@@ -122,7 +128,14 @@ survey_send = heap.Arc-send Places.the_row found.the_send found.the_sync
 job_send : IsSend (Arc.the_row Job.the_row Heap.the_row ghosts)
 job_send = heap.Arc-send Job.the_row job.the_send job.the_sync
 
+-- a share of the turns of a slide, and what its handle has of them
+turns_send : IsSend (Arc.the_row Turns.the_row Heap.the_row ghosts)
+turns_send = heap.Arc-send Turns.the_row turns.the_send turns.the_sync
+
+paging_field_send : IsSend (Struct (S.shape Paging.the_type))
+paging_field_send = struct_send (S.shape Paging.the_type) (turns_send, (has.the_field_send, tt))
+
 -- what a handle keeps
 pub kept_send : IsSend Kept.the_row
 kept_send = recorded_send (Enum (E.shape Kept.the_type)) (Kept.the_type).D (Kept.the_type).to (Kept.the_type).to_one
-    (enum_send (E.shape Kept.the_type) (tt, ((marked.the_send, tt), ((arc_send, tt), ((bench.the_field_send, tt), ((member.the_field_send, tt), ((ended_field_send, tt), ((survey_send, tt), ((tables.the_send, tt), ((job_send, tt), tt))))))))))
+    (enum_send (E.shape Kept.the_type) (tt, ((marked.the_send, tt), ((arc_send, tt), ((bench.the_field_send, tt), ((member.the_field_send, tt), ((ended_field_send, tt), ((survey_send, tt), ((tables.the_send, tt), ((job_send, tt), ((paging_field_send, tt), ((looks.the_send, tt), tt))))))))))))

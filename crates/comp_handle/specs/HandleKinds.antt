@@ -5,9 +5,11 @@ use Rattle.comp_crew.specs.declared.bench.Bench.{Bench}
 use Rattle.comp_crew.specs.declared.finishing.Ended.{Ended as End}
 use Rattle.comp_crew.specs.declared.member.Member.{Member}
 use Rattle.mark_job.specs.Asked.{Asked}
+use Rattle.stopped_heap.specs.Looks.{Looking}
 use Rattle.stopped_heap.specs.Places.{Found}
 use Rattle.stopped_heap.specs.Tables.{Reserved}
 use Rattle.comp_handle.specs.Answers.{bare}
+use Rattle.comp_handle.specs.Paged.{paged, Paged}
 use Rattle.comp_handle.specs.declared.answer.Answer.{Answer}
 use Rattle.comp_handle.specs.declared.kept.Kept.{Kept}
 use Rattle.comp_handle.specs.declared.kept.Kept.TheVariants as kept
@@ -24,6 +26,8 @@ heap_in (Some (kept.Ended e)) = None
 heap_in (Some (kept.Survey survey)) = None
 heap_in (Some (kept.Tables tables)) = None
 heap_in (Some (kept.Job job)) = None
+heap_in (Some (kept.Pages pages)) = None
+heap_in (Some (kept.Looks looks)) = None
 
 -- the heap whose plan the handle keeps
 abbrev pub plan_in : Option Kept → Option Heap
@@ -37,6 +41,8 @@ plan_in (Some (kept.Ended e)) = None
 plan_in (Some (kept.Survey survey)) = None
 plan_in (Some (kept.Tables tables)) = None
 plan_in (Some (kept.Job job)) = None
+plan_in (Some (kept.Pages pages)) = None
+plan_in (Some (kept.Looks looks)) = None
 
 -- the crew that the handle keeps, with its mutators that nobody has taken
 abbrev pub crew_in : Option Kept → Option Bench
@@ -50,6 +56,8 @@ crew_in (Some (kept.Ended e)) = None
 crew_in (Some (kept.Survey survey)) = None
 crew_in (Some (kept.Tables tables)) = None
 crew_in (Some (kept.Job job)) = None
+crew_in (Some (kept.Pages pages)) = None
+crew_in (Some (kept.Looks looks)) = None
 
 -- the mutator that the handle keeps
 abbrev pub mutator_in : Option Kept → Option Member
@@ -63,6 +71,8 @@ mutator_in (Some (kept.Ended e)) = None
 mutator_in (Some (kept.Survey survey)) = None
 mutator_in (Some (kept.Tables tables)) = None
 mutator_in (Some (kept.Job job)) = None
+mutator_in (Some (kept.Pages pages)) = None
+mutator_in (Some (kept.Looks looks)) = None
 
 -- the finished cycle that the handle keeps
 abbrev pub end_in : Option Kept → Option End
@@ -76,6 +86,8 @@ end_in (Some (kept.Ended e)) = Some e
 end_in (Some (kept.Survey survey)) = None
 end_in (Some (kept.Tables tables)) = None
 end_in (Some (kept.Job job)) = None
+end_in (Some (kept.Pages pages)) = None
+end_in (Some (kept.Looks looks)) = None
 
 -- what the survey found that the handle keeps
 abbrev pub survey_in : Option Kept → Option Found
@@ -89,6 +101,8 @@ survey_in (Some (kept.Ended e)) = None
 survey_in (Some (kept.Survey survey)) = Some survey.value
 survey_in (Some (kept.Tables tables)) = None
 survey_in (Some (kept.Job job)) = None
+survey_in (Some (kept.Pages pages)) = None
+survey_in (Some (kept.Looks looks)) = None
 
 -- the tables that the handle keeps
 abbrev pub tables_in : Option Kept → Option Reserved
@@ -102,6 +116,8 @@ tables_in (Some (kept.Ended e)) = None
 tables_in (Some (kept.Survey survey)) = None
 tables_in (Some (kept.Tables tables)) = Some tables
 tables_in (Some (kept.Job job)) = None
+tables_in (Some (kept.Pages pages)) = None
+tables_in (Some (kept.Looks looks)) = None
 
 -- the heap that is marked by the job that the handle keeps
 abbrev pub job_in : Option Kept → Option Asked
@@ -115,6 +131,38 @@ job_in (Some (kept.Ended e)) = None
 job_in (Some (kept.Survey survey)) = None
 job_in (Some (kept.Tables tables)) = None
 job_in (Some (kept.Job job)) = Some job.value
+job_in (Some (kept.Pages pages)) = None
+job_in (Some (kept.Looks looks)) = None
+
+-- the pages that the handle keeps a share of, and what it has of them
+abbrev pub pages_in : Option Kept → Option Paged
+pages_in None = None
+pages_in (Some kept.Nothing) = None
+pages_in (Some (kept.Heap heap)) = None
+pages_in (Some (kept.Plan plan)) = None
+pages_in (Some (kept.Crew bench)) = None
+pages_in (Some (kept.Mutator m)) = None
+pages_in (Some (kept.Ended e)) = None
+pages_in (Some (kept.Survey survey)) = None
+pages_in (Some (kept.Tables tables)) = None
+pages_in (Some (kept.Job job)) = None
+pages_in (Some (kept.Pages pages)) = Some (paged pages)
+pages_in (Some (kept.Looks looks)) = None
+
+-- the marking by looks that the handle keeps
+abbrev pub looks_in : Option Kept → Option Looking
+looks_in None = None
+looks_in (Some kept.Nothing) = None
+looks_in (Some (kept.Heap heap)) = None
+looks_in (Some (kept.Plan plan)) = None
+looks_in (Some (kept.Crew bench)) = None
+looks_in (Some (kept.Mutator m)) = None
+looks_in (Some (kept.Ended e)) = None
+looks_in (Some (kept.Survey survey)) = None
+looks_in (Some (kept.Tables tables)) = None
+looks_in (Some (kept.Job job)) = None
+looks_in (Some (kept.Pages pages)) = None
+looks_in (Some (kept.Looks looks)) = Some looks
 
 -- The answer of a call to which the handle with this number, among those of the call, does not keep what is asked for:
 -- it is empty, or keeps something of another kind.

@@ -1,7 +1,6 @@
 -- A job that marks a heap at rest, by threads of the caller's.
 use Rattle.std.specs.Prelude.{◌≡◌, ℕ, ◌⊎◌, Bool, IsFalse, IsTrue, List, MatchOption, Option, None, Some}
-use Rattle.mark_job.specs.Asked.{Asked}
-use Rattle.stopped_heap.specs.Reached.{IsFaultOf}
+use Rattle.mark_job.specs.Asked.{Asked, IsBeginFault, IsSmall}
 use Rattle.stopped_heap.specs.declared.fault.SurveyFault.{SurveyFault}
 use Rattle.comp_handle.specs.Answers.{bare, done, of_survey}
 use Rattle.comp_handle.specs.HandleKinds.{job_in, Fills}
@@ -10,11 +9,12 @@ use Rattle.comp_handle.specs.Resting.{asked}
 use Rattle.comp_handle.specs.declared.answer.Answer.{Answer}
 use Rattle.comp_handle.specs.declared.kept.Kept.{Kept}
 
--- the handle keeps a job that marks this heap; or it keeps nothing, and the answer says why
+-- The handle keeps a job that marks this heap, which is not too large; or it keeps nothing, and the answer says why: the
+-- heap is too large, or memory ran out.
 abbrev pub Begins : Asked → Option Kept → Answer → Type 0
 Begins heap now a =
-    ((job_in now ≡ Some heap) × (a ≡ done 0))
-    ⊎ ((now ≡ None) × ((fault : SurveyFault) × (a ≡ of_survey fault) × IsFaultOf heap.edition heap.words heap.roots fault))
+    ((job_in now ≡ Some heap) × (a ≡ done 0) × IsSmall heap)
+    ⊎ ((now ≡ None) × ((fault : SurveyFault) × (a ≡ of_survey fault) × IsBeginFault heap fault))
 
 -- a job for a heap of edition n
 abbrev pub BeginsJob : ℕ → List ℕ → List ℕ → Option Kept → Option Kept → Answer → Type 0

@@ -1,3 +1,4 @@
+pub mod Paged
 pub mod Keeping
 pub mod Held
 pub mod Answers
@@ -6,6 +7,9 @@ pub mod Calling
 pub mod Making
 pub mod Turning
 pub mod Resting
+pub mod ByBits
+pub mod Looks
+pub mod Looking
 pub mod Lending
 pub mod Helping
 pub mod Crewing
@@ -21,3 +25,6 @@ pub mod Dumping
 pub mod Judging
 pub mod Telling
 pub mod Moves
+pub mod Guarding
+pub mod Paging
+pub mod Touching

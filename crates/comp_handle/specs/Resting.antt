@@ -1,5 +1,5 @@
 -- A heap at rest, in memory of the caller: collections, surveys, and what is done by a survey.
-use Rattle.std.specs.Prelude.{◌≡◌, ◌≢◌, ℕ, ◌-◌, ◌<◌, ◌==◌, ◌⊎◌, Bool, true, false, IsFalse, IsTrue, List, All, count_by, drop, length, map, slice_index, take, Option, None, Some}
+use Rattle.std.specs.Prelude.{◌≡◌, ◌≢◌, ℕ, ◌+◌, ◌-◌, ◌/◌, ◌<◌, ◌==◌, ◌⊎◌, Bool, true, false, IsFalse, IsTrue, List, All, count_by, drop, length, map, slice_index, take, Option, None, Some}
 use Rattle.heap_layout.specs.Heap.{is_value, IsValue}
 use Rattle.heap_layout.specs.Versions.{version_of}
 use Rattle.heap_layout.specs.declared.edition.Edition.{Edition}
@@ -11,6 +11,7 @@ use Rattle.stopped_heap.specs.Reached.{IsFaultOf}
 use Rattle.stopped_heap.specs.Surveys.{marks_of}
 use Rattle.stopped_heap.specs.declared.fault.CollectFault.{CollectFault}
 use Rattle.stopped_heap.specs.declared.fault.MarksFault.{MarksFault}
+use Rattle.stopped_heap.specs.declared.fault.MarksFault.TheVariants as refusal
 use Rattle.stopped_heap.specs.declared.fault.SlideFault.{SlideFault}
 use Rattle.stopped_heap.specs.declared.fault.SlideFault.TheVariants as slide
 use Rattle.stopped_heap.specs.declared.fault.SurveyFault.{SurveyFault}
@@ -67,17 +68,25 @@ abbrev pub SurveysByRoots : ℕ → List ℕ → List ℕ → Option Kept → Op
 SurveysByRoots n words roots old new a =
     Fills 0 (λ now b. ByEdition n (λ edition. Surveys (asked edition words roots) now b) now b) (Unit {0}) old new a
 
--- this was found of the heap whose marked objects are those at the set bits
+-- this was found of the heap whose marked objects are those at the set bits, one for each word
 pub record IsTakenOf (heap : Asked) (bits : List ℕ) (found : Found) : Type 0 where
   pub marks : found.marks ≡ marks_of bits
+  pub long : length bits ≡ (length heap.words + 63) / 64
   pub places : IsFoundOf found (record { edition = heap.edition; words = heap.words; marks = found.marks; roots = heap.roots })
+
+-- Why marks are not taken: there is not a bit for each word, which is asked before all else; or there is, and the heap or
+-- the marks are refused.
+abbrev pub RefusesMarks : Asked → List ℕ → MarksFault → Type 0
+RefusesMarks heap bits fault =
+    ((fault ≡ refusal.WrongLength) × (length bits ≢ (length heap.words + 63) / 64))
+    ⊎ ((length bits ≡ (length heap.words + 63) / 64) × IsMarksFaultOf heap.edition heap.words heap.roots bits fault)
 
 -- The handle keeps what is marked, and where it slides; the answer has the number of live words. Or it keeps nothing,
 -- and the answer says why.
 abbrev pub TakesMarks : Asked → List ℕ → Option Kept → Answer → Type 0
 TakesMarks heap bits now a =
     ((found : Found) × (survey_in now ≡ Some found) × IsTakenOf heap bits found × (a ≡ done (length found.indices)))
-    ⊎ ((now ≡ None) × ((fault : MarksFault) × (a ≡ of_marks fault) × IsMarksFaultOf heap.edition heap.words heap.roots bits fault))
+    ⊎ ((now ≡ None) × ((fault : MarksFault) × (a ≡ of_marks fault) × RefusesMarks heap bits fault))
 
 -- a survey of a heap of edition n by marks of the caller's own
 abbrev pub SurveysByMarks : ℕ → List ℕ → List ℕ → List ℕ → Option Kept → Option Kept → Answer → Type 0

@@ -1,13 +1,12 @@
 //! A job that marks a heap at rest, by handles: any threads help, each by a share of its own.
-ghost use Rattle.std.specs.Prelude.{◌≡◌, ◌⊎◌, ◌≤◌, None, Some, length, IfErr, IfOk, IsFalse, IsTrue};
+ghost use Rattle.std.specs.Prelude.{◌≡◌, ◌⊎◌, None, Some, length, IfErr, IfOk, IsFalse, IsTrue};
 ghost use Rattle.comp_handle.specs.Answers.{bare};
 ghost use Rattle.comp_handle.specs.Helping.{Begins, BeginsJob, Helps, IsUnended};
 ghost use Rattle.comp_handle.specs.Keeping.{IsKept};
 ghost use Rattle.comp_handle.specs.HandleKinds.{job_in, Asks, Turns};
 ghost use Rattle.comp_handle.specs.Lending.{IsStillShared};
 ghost use Rattle.comp_handle.specs.Resting.{asked, IsUnsharedIn, Shares, Surveys};
-ghost use Rattle.heap_layout.specs.Limits.{most_roots, most_words};
-ghost use Rattle.mark_job.specs.Asked.{IsMarkedOf};
+ghost use Rattle.mark_job.specs.Asked.{IsBeginFault, IsMarkedOf, IsSmall};
 ghost use Rattle.stopped_heap.specs.Reached.{IsFaultOf};
 
 use crate::answer::Answer;
@@ -29,8 +28,8 @@ fn job_of(
     roots: &[u64],
 ) -> Result<Arc<Job>, SurveyFault>
     ensures asked { IfOk result (λ job. job.value ≡ asked edition words.now roots.now) }
-    ensures few { IfOk result (λ _. (length words.now ≤ most_words edition) × (length roots.now ≤ most_roots edition)) }
-    ensures fault { IfErr result (IsFaultOf edition words.now roots.now) }
+    ensures few { IfOk result (λ _. IsSmall (asked edition words.now roots.now)) }
+    ensures fault { IfErr result (IsBeginFault (asked edition words.now roots.now)) }
 {
     if words.len() > edition.max_words() || roots.len() > edition.max_roots() {
         return Err(SurveyFault::TooLarge);
@@ -239,8 +238,8 @@ fn end(alloc: Global, job: Job, room: Box<Kept>, survey: &mut Handle) -> Answer
     }
 }
 
-// How many words the live objects have.
-fn live_words(places: &Arc<Places>) -> u64
+/// How many words the live objects have.
+pub(crate) fn live_words(places: &Arc<Places>) -> u64
     ensures { result ≡ length places.now.value.indices }
 {
     (&**places).live_words()

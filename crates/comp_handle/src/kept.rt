@@ -1,9 +1,10 @@
+use crate::pages::Paging;
 use comp_crew::{Bench, Ended, Member};
 use heap_layout::MarkedHeap;
 use mark_job::Job;
 use page_plan::Plan;
 use std::sync::Arc;
-use stopped_heap::{Places, Tables};
+use stopped_heap::{Looks, Places, Tables};
 
 /// What a handle keeps.
 #[derive(Drop)]
@@ -26,4 +27,8 @@ pub enum Kept {
     Tables(Tables),
     /// A job that marks a heap at rest.
     Job(Arc<Job>),
+    /// The pages of a slide by first touch.
+    Pages(Paging),
+    /// A marking by looks that goes on.
+    Looks(Looks),
 }

@@ -1,15 +1,16 @@
 //! What is kept, by its kind: taken out, or looked at.
 ghost use Rattle.std.specs.Prelude.{◌≡◌, None, Some, IfErr, IfOk, MatchOption};
-ghost use Rattle.comp_handle.specs.HandleKinds.{crew_in, end_in, heap_in, job_in, mutator_in, plan_in, survey_in, tables_in};
+ghost use Rattle.comp_handle.specs.HandleKinds.{crew_in, end_in, heap_in, job_in, looks_in, mutator_in, pages_in, plan_in, survey_in, tables_in};
 ghost use Rattle.comp_handle.specs.declared.kept.Kept.TheVariants as kinds;
 
 use crate::kept::Kept;
+use crate::pages::Paging;
 use comp_crew::{Bench, Ended, Member};
 use heap_layout::MarkedHeap;
 use mark_job::Job;
 use page_plan::Plan;
 use std::sync::Arc;
-use stopped_heap::{Places, Tables};
+use stopped_heap::{Looks, Places, Tables};
 
 /// The heap that is kept. Err with what is kept if it is none.
 pub(crate) fn into_heap(kept: Kept) -> Result<MarkedHeap, Kept>
@@ -88,6 +89,28 @@ pub(crate) fn into_job(kept: Kept) -> Result<Arc<Job>, Kept>
     }
 }
 
+/// The pages that are kept. Err with what is kept if they are none.
+pub(crate) fn into_pages(kept: Kept) -> Result<Paging, Kept>
+    ensures pages { IfOk result (λ pages. kept ≡ kinds.Pages pages) }
+    ensures other { IfErr result (λ left. (left ≡ kept) × (pages_in (Some kept) ≡ None)) }
+{
+    match kept {
+        Kept::Pages(pages) => Ok(pages),
+        other => Err(other),
+    }
+}
+
+/// The marking that is kept. Err with what is kept if it is none.
+pub(crate) fn into_looks(kept: Kept) -> Result<Looks, Kept>
+    ensures looks { IfOk result (λ looks. kept ≡ kinds.Looks looks) }
+    ensures other { IfErr result (λ left. (left ≡ kept) × (looks_in (Some kept) ≡ None)) }
+{
+    match kept {
+        Kept::Looks(looks) => Ok(looks),
+        other => Err(other),
+    }
+}
+
 /// The heap that is kept. None if it is none.
 pub(crate) fn as_heap(kept: &Kept) -> Option<&MarkedHeap>
     ensures { MatchOption result (heap_in (Some kept.now) ≡ None) (λ heap. kept.now ≡ kinds.Heap heap.now) }
@@ -144,6 +167,26 @@ pub(crate) fn as_job(kept: &Kept) -> Option<&Arc<Job>>
 {
     match kept {
         Kept::Job(job) => Some(job),
+        _ => None,
+    }
+}
+
+/// The pages that are kept. None if they are none.
+pub(crate) fn as_pages(kept: &Kept) -> Option<&Paging>
+    ensures { MatchOption result (pages_in (Some kept.now) ≡ None) (λ pages. kept.now ≡ kinds.Pages pages.now) }
+{
+    match kept {
+        Kept::Pages(pages) => Some(pages),
+        _ => None,
+    }
+}
+
+/// The marking that is kept. None if it is none.
+pub(crate) fn as_looks(kept: &Kept) -> Option<&Looks>
+    ensures { MatchOption result (looks_in (Some kept.now) ≡ None) (λ looks. kept.now ≡ kinds.Looks looks.now) }
+{
+    match kept {
+        Kept::Looks(looks) => Some(looks),
         _ => None,
     }
 }

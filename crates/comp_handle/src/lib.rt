@@ -2,12 +2,14 @@
 #![tactic(auto)]
 
 mod answer;
+mod by_bits;
 mod calling;
 mod copying;
 mod crewing;
 mod dumping;
 mod ending;
 mod facts;
+mod guarding;
 mod handle;
 mod helping;
 mod imaging;
@@ -16,9 +18,13 @@ mod judging;
 mod kept;
 mod kinds;
 mod lending;
+mod looking;
+mod looks;
 mod making;
 mod moves;
 mod opening;
+mod pages;
+mod paging;
 mod parts;
 mod planning;
 mod resting;
@@ -26,9 +32,11 @@ mod seeing;
 mod settling;
 mod sizes;
 mod telling;
+mod touching;
 mod turning;
 
 pub use answer::Answer;
+pub use by_bits::survey_by_bits;
 pub use calling::{Call, make_call};
 pub use copying::{end_roots, mutator_roots};
 pub use crewing::{flip_crew, take_member};
@@ -37,6 +45,7 @@ pub use ending::{Question, Written, ask, page_entry, page_words};
 pub use facts::{
     EndFacts, HeapFacts, MutatorFacts, PlanFacts, end_facts, heap_facts, mutator_facts, plan_facts,
 };
+pub use guarding::survey_guarded;
 pub use handle::Handle;
 pub use helping::{begin_job, finish_job, help_job, share_job};
 pub use imaging::{read_image, write_image};
@@ -46,8 +55,12 @@ pub use kept::Kept;
 pub use lending::{
     collect_in_place_lent, collect_lent, reserve_tables, return_tables, survey_lent,
 };
+pub use looking::{look_again, look_rows, meet_looks};
+pub use looks::{begin_looks, finish_looks, waiting_looks};
 pub use making::{put_heap, put_marked};
 pub use moves::judge_moved;
+pub use pages::{Has, Paging};
+pub use paging::{begin_pages, end_pages, share_pages};
 pub use planning::{forward_plan, plan_page, share_plan};
 pub use resting::{
     SurveyFacts, collect, collect_in_place, forward_survey, forward_weak, share_survey,
@@ -56,4 +69,5 @@ pub use resting::{
 pub use seeing::seen_page;
 pub use settling::rest_end;
 pub use telling::explain_dump;
+pub use touching::{build_page, claim_page, publish_page};
 pub use turning::{drop_kept, finish_crew, follow, follow_reached, plan_heap};

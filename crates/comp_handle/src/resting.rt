@@ -1,10 +1,9 @@
 //! A heap at rest, in memory of the caller: it is collected, or surveyed, and slides by the survey that a handle keeps.
-ghost use Rattle.std.specs.Prelude.{◌≡◌, ◌⊎◌, ◌+◌, ◌/◌, None, Some, length, IfErr, IfOk, IsFalse, IsTrue};
+ghost use Rattle.std.specs.Prelude.{◌≡◌, ◌⊎◌, None, Some, IfErr, IfOk, IsFalse, IsTrue};
 ghost use Rattle.comp_handle.specs.Answers.{bare};
 ghost use Rattle.comp_handle.specs.HandleKinds.{survey_in, Asks};
-ghost use Rattle.comp_handle.specs.Resting.{asked, nulls, Collects, CollectsIn, CollectsInPlace, CollectsWithin, CountsSurvey, ForwardsRoots, ForwardsWeak, IsTakenOf, IsUnsharedIn, Shares, Slides, Surveys, SurveysByMarks, SurveysByRoots, TakesMarks};
+ghost use Rattle.comp_handle.specs.Resting.{asked, nulls, Collects, CollectsIn, CollectsInPlace, CollectsWithin, CountsSurvey, ForwardsRoots, ForwardsWeak, IsTakenOf, IsUnsharedIn, RefusesMarks, Shares, Slides, Surveys, SurveysByMarks, SurveysByRoots, TakesMarks};
 ghost use Rattle.mark_job.specs.Asked.{IsMarkedOf};
-ghost use Rattle.stopped_heap.specs.Marks.{IsMarksFaultOf};
 ghost use Rattle.stopped_heap.specs.Reached.{IsFaultOf};
 
 use crate::answer::Answer;
@@ -72,8 +71,8 @@ pub fn collect_in_place(alloc: Global, edition: u32, words: &mut [u64], roots: &
     }
 }
 
-// Puts what was found into the handle, which is empty. If there is no memory, the answer is false.
-fn keep_found(alloc: Global, out: &mut Handle, found: Places) -> bool
+/// Puts what was found into the handle, which is empty. If there is no memory, the answer is false.
+pub(crate) fn keep_found(alloc: Global, out: &mut Handle, found: Places) -> bool
     requires { out.old.kept ≡ None }
     ensures kept { IsTrue result → survey_in out.new.kept ≡ Some found }
     ensures empty { IsFalse result → out.new.kept ≡ None }
@@ -151,8 +150,7 @@ fn found_by_marks(
     marks: &[u64],
 ) -> Result<Places, MarksFault>
     ensures found { IfOk result (IsTakenOf (asked edition words.now roots.now) marks.now) }
-    ensures blocks { IfOk result (λ _. length marks.now ≡ (length words.now + 63) / 64) }
-    ensures fault { IfErr result (IsMarksFaultOf edition words.now roots.now marks.now) }
+    ensures fault { IfErr result (RefusesMarks (asked edition words.now roots.now) marks.now) }
 {
     if marks.len() != words.len().div_ceil(64) {
         return Err(MarksFault::WrongLength);

@@ -55,7 +55,7 @@ static int again(compressor_answer a, int *refusals) {
     do {                                                                                    \
         compressor_answer told_;                                                            \
         CALL(told_, call);                                                                  \
-        if (told_.status != (is) || told_.value != (uint64_t)(number)) fail(#call, told_);  \
+        if (told_.status != (is) || told_.value != (number)) fail(#call, told_);            \
     } while (0)
 
 #define IS(what)                               \
@@ -193,12 +193,12 @@ static uint64_t run_threads(struct worker *workers) {
 static void meet_all(struct worker *workers) {
     compressor_mutator *m = &workers[0].mutator;
     for (int k = 1; k < THREADS; k++) DO(compressor_mutator_meet(m, &workers[k].mutator));
-    for (int k = 0; k < THREADS; k++) {
+    for (uint64_t k = 0; k < THREADS; k++) {
         uint64_t anchor, at;
         GET(anchor, compressor_mutator_root(m, 1 + k));
         GET(at, compressor_mutator_read_ref(m, anchor, 0));
-        for (int i = MADE; i-- > 0;) {
-            ANSWERS(compressor_mutator_read_data(m, at, 0), COMPRESSOR_DONE, 1000000ull * k + i);
+        for (uint64_t i = MADE; i-- > 0;) {
+            ANSWERS(compressor_mutator_read_data(m, at, 0), COMPRESSOR_DONE, 1000000 * k + i);
             GET(at, compressor_mutator_read_ref(m, at, 0));
         }
         IS(at == 0);

@@ -64,9 +64,11 @@ static void collect(uint64_t **told, size_t count, int turns) {
     compressor_scatter(told, count, roots);
 }
 
+static volatile int64_t last_sum; /* so that the numbers are loaded */
+
 /* The runtime goes on with its lists. Whether their numbers are right it does not look. */
 static void go_on(void) {
-    volatile int64_t sum = 0;
+    int64_t sum = 0;
     for (int k = 0; k < LISTS; k++) {
         uint64_t at = lists[k] = pair(LENGTH, lists[k]);
         for (int i = 0; i <= LENGTH && compressor_is_reference(at); i++) {
@@ -74,6 +76,7 @@ static void go_on(void) {
             at = compressor_load(&space, at, 1);
         }
     }
+    last_sum = sum;
 }
 
 /* A whole try. It forgets a variable, or none if that is LISTS. */

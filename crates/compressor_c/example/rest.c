@@ -222,14 +222,23 @@ int main(void) {
     moved(other, live);
 
     /* a list is dropped, within the memory, by marks of the runtime's own, and by the same tables */
-    uint64_t *marks = zeros((live + 63) / 64);
+    uint64_t *marks = zeros((live + 63) / 64), *bits = zeros((live + 63) / 64);
     for (int k = 0; k < 2; k++)
-        for (uint64_t at = roots[k]; compressor_is_reference(at); at = compressor_load(&space, at, 1))
+        for (uint64_t at = roots[k]; compressor_is_reference(at); at = compressor_load(&space, at, 1)) {
             IS(compressor_mark(marks, at));
-    ANSWERS(value, compressor_survey_by_marks(EDITION, other, live, roots, THREADS, marks, (live + 63) / 64, &survey),
+            compressor_mark_live(bits, at, compressor_shape_words(compressor_shape_at(&space, at)));
+        }
+    ANSWERS(value, compressor_survey_by_bits(EDITION, live, roots, THREADS, marks, (live + 63) / 64, bits,
+                                             (live + 63) / 64, &survey), COMPRESSOR_DONE);
+    IS(value == live && collect_by_parts(&survey, roots, one) == live);
+    compressor_survey_drop(&survey);
+    moved(one, live);
+    ANSWERS(value, compressor_survey_by_marks(EDITION, one, live, roots, THREADS, marks, (live + 63) / 64, &survey),
             COMPRESSOR_DONE);
-    IS(value == live);
+    IS(value == live && collect_by_parts(&survey, roots, other) == live);
+    moved(other, live);
     free(marks);
+    free(bits);
     ANSWERS(value, compressor_survey_return(&survey, &tables), COMPRESSOR_NOT_EMPTY);
     ANSWERS(value, compressor_survey_return(&survey, &again), COMPRESSOR_DONE);
     IS(value == 0);

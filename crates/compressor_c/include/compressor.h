@@ -1,25 +1,27 @@
 /* compressor.h: a compacting garbage collector for runtimes in C, C++ and unverified Rust. There are two ways to use
    it. A flipped heap: threads go on while their heap is compacted, and read, write and allocate by calls of a mutator.
    A heap at rest: it lies in memory of the runtime's, which reads, writes and allocates there with no call
-   (compressor_rest.h), and stands still for a collection. Here is the manual of each call, and docs/C.md is the guide;
-   docs/ is installed in share/doc/compressor. The library calls malloc, realloc and free, and nothing else.
+   (compressor_rest.h); it stands still for a collection, or for its survey alone (compressor_pages_begin). Here is the
+   manual of each call, and docs/C.md is the guide; docs/ is installed in share/doc/compressor. The library calls malloc,
+   realloc and free, and nothing else.
 
-   Handles. Each kind of thing has a struct of its own: heap, plan, crew, mutator, end; survey, tables, job. A handle is
-   empty or keeps one thing. Begin with COMPRESSOR_EMPTY, or with zero bytes. Only calls write to a handle. It may be
-   moved in memory, and never used from two copies. The handles of one call are not the same handle. What a call makes
-   goes into an empty handle; a drop alone frees what a handle keeps. Where a call says that something goes, its handle
-   is empty then.
+   Handles. Each kind of thing has a struct of its own: heap, plan, crew, mutator, end; survey, tables, job, looks,
+   pages. A handle is empty or keeps one thing. Begin with COMPRESSOR_EMPTY, or with zero bytes. Only calls write to a
+   handle. It may be moved in memory, and never used from two copies. The handles of one call are not the same handle.
+   What a call makes goes into an empty handle; a drop alone frees what a handle keeps. Where a call says that something
+   goes, its handle is empty then.
 
-   Arrays. The pointer of an array of length 0 may be null, and no other one. Elements are aligned as their type. No
-   array overlaps another one, or a handle, of the same call. While a call runs, nobody writes to what it reads, or uses
-   what it writes. No call keeps a pointer of the caller's. Of a call that fills a buffer, what lies behind the count of
-   the answer stays.
+   Arrays. The pointer of an array of length 0 may be null, and no other one. Elements are aligned as their type. An
+   array or a struct that is written overlaps no other one, and none overlaps a handle, of the same call; those that are
+   only read may overlap. While a call runs, nobody writes to what it reads, or uses what it writes. No call keeps a
+   pointer of the caller's. Of a call that fills a buffer, what lies behind the count of the answer stays.
 
    Threads. Each handle is used by one call at a time, reads included; from one thread to the next by a lock, the start
-   or join of a thread, or a seq_cst atomic. What is often asked is copied into plain structs (.._facts), which anybody
-   may read. Mutators of one crew are used at the same time without a lock. To use one plan, survey or job from several
-   threads, give each a share of its own (.._share). No call waits, locks, or starts a thread. No call is made from a
-   signal handler, or in the forked child of a process with threads.
+   or join of a thread, or an atomic that is stored with release and loaded with acquire, or more. What is often asked
+   is copied into plain structs (.._facts), which anybody may read. Mutators of one crew are used at the same time
+   without a lock. To use one plan, survey, job or slide by pages from several threads, give each a share of its own
+   (.._share). No call waits, locks, or starts a thread. No call is made from a signal handler, but for those of which
+   it is said; none in the forked child of a process with threads.
 
    Answers. status is COMPRESSOR_DONE, and then value is the result, 0 if none is named; else value and other are
    the numbers that the refusal names, in this order, and 0. A refused call leaves handles and buffers as they were,
@@ -55,10 +57,16 @@
 #ifdef __cplusplus
 #define COMPRESSOR_ASSERT_(fact, text) static_assert(fact, text)
 #define COMPRESSOR_AS_(type, value) static_cast<type>(value)
+extern "C++" { /* a number of any type, so that no compiler calls the cast useless */
+template <class compressor_number_> constexpr uint64_t compressor_word_(compressor_number_ n) {
+    return static_cast<uint64_t>(n);
+}
+}
 #define COMPRESSOR_EMPTY {nullptr}
 #else
 #define COMPRESSOR_ASSERT_(fact, text) _Static_assert(fact, text)
 #define COMPRESSOR_AS_(type, value) ((type)(value))
+#define compressor_word_(n) ((uint64_t)(n))
 #define COMPRESSOR_EMPTY {NULL}
 #endif
 
@@ -76,6 +84,8 @@ typedef struct compressor_end { void *at; } compressor_end;         /* a finishe
 typedef struct compressor_survey { void *at; } compressor_survey;   /* which objects of a heap at rest are live */
 typedef struct compressor_tables { void *at; } compressor_tables;   /* room for a survey, made before it */
 typedef struct compressor_job { void *at; } compressor_job;         /* the marking of a heap at rest by many threads */
+typedef struct compressor_looks { void *at; } compressor_looks;     /* the marking of a heap while its threads go on */
+typedef struct compressor_pages { void *at; } compressor_pages;     /* the slide of a surveyed heap, page by page */
 
 typedef struct compressor_answer {
     uint32_t status;
@@ -103,9 +113,9 @@ typedef enum compressor_status {
     COMPRESSOR_MUTATOR_MISSING = 16,  /* (the least number that was not handed back) */
     COMPRESSOR_OTHER_CREW = 17,       /* a mutator of another crew */
     COMPRESSOR_NO_MUTATOR_LEFT = 18,
-    COMPRESSOR_BAD_EDITION = 19,      /* (edition) not 1 to 4 */
+    COMPRESSOR_BAD_EDITION = 19,      /* (edition) not 1 to 4; of bits not 3 or 4 */
     COMPRESSOR_NOT_BUILT = 20,        /* (page) nobody built it: it has the words of the plan (compressor_plan_page),
-                                         or zeros if fresh */
+                                         or zeros if fresh; of a slide: its turn is had, and it is not built yet */
     COMPRESSOR_NO_SUCH_ENTRY = 21,    /* (number) */
     COMPRESSOR_TOO_SHORT = 22,        /* (length; which) the buffer is shorter; which is 0 but of compressor_end_rest */
     COMPRESSOR_NO_SUCH_BUILD = 23,    /* (number) */
@@ -117,7 +127,7 @@ typedef enum compressor_status {
     COMPRESSOR_STILL_SHARED = 28,     /* another handle keeps a share; of a crew never, if conditions are kept */
     COMPRESSOR_OTHER_COUNT = 29,      /* not as many words as were surveyed */
     COMPRESSOR_SHORT_TABLES = 30,     /* (words) there are more words than the tables have room for */
-    COMPRESSOR_WRONG_LENGTH = 31,     /* not one block of marks for each 64 words, the last ones in part */
+    COMPRESSOR_WRONG_LENGTH = 31,     /* not one block of bits for each 64 words, the last ones in part */
     COMPRESSOR_BAD_OPTIONS = 32,      /* (options) a bit that has no meaning */
     /* 32 + n: fault Hn of a heap or an image (docs/FORMATS.md); H11 is COMPRESSOR_OUT_OF_MEMORY */
     COMPRESSOR_TOO_LARGE = 33,        /* more words, marks or roots than the edition allows */
@@ -155,6 +165,19 @@ typedef enum compressor_status {
     COMPRESSOR_MOVED_OVERLAP = 163,       /* (object; object) */
     COMPRESSOR_MOVED_WRONG_ROOT = 164,    /* (number) */
     COMPRESSOR_MOVED_WRONG_WORD = 165,    /* (object; word) */
+    /* bits of the runtime's own */
+    COMPRESSOR_NOT_A_RUN = 192, /* (index) a first word that is not live; or it is live, no first word, and behind none */
+    /* calls of a slide by pages */
+    COMPRESSOR_NO_SIZE = 193,         /* a page has no words */
+    COMPRESSOR_PAGE_HOME = 194,       /* (page) it was published */
+    COMPRESSOR_PAGE_BUSY = 195,       /* (page) another handle has its turn, or had it a moment ago: call again */
+    COMPRESSOR_TURN_TAKEN = 196,      /* (page) this handle has the turn for this page already */
+    COMPRESSOR_NOT_HOME = 197,        /* (page) it is not published yet */
+    COMPRESSOR_NO_TURN = 198,         /* this handle has no turn, or, to build, only that of a built page */
+    COMPRESSOR_OTHER_LENGTH = 199,    /* (words) the page has so many words, and the memory has another number */
+    /* calls of a marking by looks */
+    COMPRESSOR_NO_SUCH_OBJECT = 210,  /* (index) no object was met there; (0) there are more rows than objects wait */
+    COMPRESSOR_STILL_WAITING = 211,   /* (index) this object waits to be looked at */
     COMPRESSOR_WRONG_HANDLE = 255         /* a handle of another kind: a cast, or a byte that C wrote */
 } compressor_status;
 
@@ -296,12 +319,11 @@ static inline int compressor_shape_header(uint32_t edition, compressor_shape s, 
 
 /* Constant expressions, for editions three and four. The header word of counts below 65,536 and a tag below 16,384; the
    tag of any header word; the word with another tag. */
-#define COMPRESSOR_HEADER(refs, weak, data, tag)                                                        \
-    (COMPRESSOR_AS_(uint64_t, refs) | COMPRESSOR_AS_(uint64_t, data) << 16 | COMPRESSOR_AS_(uint64_t, weak) << 32 | \
-     COMPRESSOR_AS_(uint64_t, tag) << 48)
+#define COMPRESSOR_HEADER(refs, weak, data, tag)                                                              \
+    (compressor_word_(refs) | compressor_word_(data) << 16 | compressor_word_(weak) << 32 | compressor_word_(tag) << 48)
 #define COMPRESSOR_TAG_OF(header) COMPRESSOR_AS_(uint32_t, (header) >> 48 & 0x3fffu)
 #define COMPRESSOR_WITH_TAG(header, tag) \
-    (((header) & ~(UINT64_C(0x3fff) << 48)) | COMPRESSOR_AS_(uint64_t, tag) << 48)
+    (((header) & ~(UINT64_C(0x3fff) << 48)) | compressor_word_(tag) << 48)
 
 /* The name of a status, as "JOURNAL_FULL". */
 static inline const char *compressor_status_text(uint32_t status) {
@@ -370,6 +392,16 @@ static inline const char *compressor_status_text(uint32_t status) {
         COMPRESSOR_CASE_(MOVED_OVERLAP)
         COMPRESSOR_CASE_(MOVED_WRONG_ROOT)
         COMPRESSOR_CASE_(MOVED_WRONG_WORD)
+        COMPRESSOR_CASE_(NOT_A_RUN)
+        COMPRESSOR_CASE_(NO_SIZE)
+        COMPRESSOR_CASE_(PAGE_HOME)
+        COMPRESSOR_CASE_(PAGE_BUSY)
+        COMPRESSOR_CASE_(TURN_TAKEN)
+        COMPRESSOR_CASE_(NOT_HOME)
+        COMPRESSOR_CASE_(NO_TURN)
+        COMPRESSOR_CASE_(OTHER_LENGTH)
+        COMPRESSOR_CASE_(NO_SUCH_OBJECT)
+        COMPRESSOR_CASE_(STILL_WAITING)
         COMPRESSOR_CASE_(WRONG_HANDLE)
 #undef COMPRESSOR_CASE_
         default: return "UNKNOWN";
@@ -385,14 +417,15 @@ uint32_t compressor_version(void);
 /* Its words are from-space (docs/FORMATS.md), in memory of the caller. Only objects that are reached, or marked, are
    looked at; what lies between them may be anything. A header word is any word whose object fits: one shape may have
    several, and they slide as they are. Objects keep their order. So one before which nothing dies keeps its address.
-   All threads of the runtime stand still, or touch nothing of it, from the survey to the last slide. A root that is not
-   handed in is lost, and one that is forwarded twice may be that of another object. Of a refusal that names a word the
-   value is words[index]; compressor_object_around of compressor_rest.h has its object. */
+   From the survey to the last slide nobody writes to it: all threads of the runtime stand still, or use only pages of
+   the other memory that are home (compressor_pages_begin). A root that is not handed in is lost, and one that is
+   forwarded twice may be that of another object. Of a refusal that names a word the value is words[index];
+   compressor_object_around of compressor_rest.h has its object. */
 
 /* The whole collection: slides what the roots reach into `to`, from its first word on, and makes the roots lead there.
    Answers the live words; those of `to` behind them stay. in_place: the same down to the first of the words, with no
    second memory. A weak table, as for finalizers, is an object of weak words that is a root: each becomes null where
-   its object dies. Tables take two bits a word, 4 bytes for each 64 words, and 4 for each object that is reached.
+   its object dies. Tables take two bits a word, 8 bytes for each 64 words (in_place 4), and 4 for each reached object.
    Refusals, after which all is as it was: BAD_EDITION; TOO_LARGE; memory, or a fault that is there: BAD_ROOT,
    BAD_REFERENCE, BAD_WEAK, OBJECT_TOO_LONG, OBJECT_PAST_END or OVERLAP; TOO_SHORT (the live words). */
 compressor_answer compressor_collect(uint32_t edition, const uint64_t *words, size_t word_count, uint64_t *roots,
@@ -411,6 +444,32 @@ compressor_answer compressor_survey_by_roots(uint32_t edition, const uint64_t *w
 compressor_answer compressor_survey_by_marks(uint32_t edition, const uint64_t *words, size_t word_count,
                                              const uint64_t *roots, size_t root_count, const uint64_t *marks,
                                              size_t block_count, compressor_survey *survey);
+
+/* The same by bits of the runtime's own, which nobody sets any more: heads has those of the first words of the marked
+   objects, live those of all their words, each in (word_count + 63) / 64 blocks. No word of the heap is looked at: the
+   slide asks of each object what a survey asks. So slide all parts before a root is forwarded. If a part is refused,
+   CHANGED or UNMARKED, drop the survey, and survey by the roots: words and roots are as they were. If none is, nothing
+   that the roots reach is lost, whoever marked. Refusals: BAD_EDITION, also of editions 1 and 2; TOO_LARGE;
+   WRONG_LENGTH; memory, or a fault that is there: NOT_A_RUN, OBJECT_PAST_END, a bit behind the words, or BAD_ROOT, one
+   that leads to no marked object. */
+compressor_answer compressor_survey_by_bits(uint32_t edition, uint64_t word_count, const uint64_t *roots,
+                                            size_t root_count, const uint64_t *heads, size_t head_count,
+                                            const uint64_t *live, size_t live_count, compressor_survey *survey);
+
+/* A survey with ephemerons and guardians. An ephemeron is three words, holder, key and value: the value is held as soon
+   as the holder and the key are; immediates are held, null is not. The holder is the object that the ephemeron lies in,
+   or the key once more. Live are the objects that the roots, the ephemerons and the guarded words hold. A guarded word
+   is lost if it leads to an object that roots and ephemerons do not hold without the guarded words: the lost ones come
+   first in `guarded` then, in the order that they had, and the other ones behind them; `lost` is their number. So what
+   is lost is seen once more, with all that it reaches; a guardian takes it out, and what is not guarded again dies in
+   the next collection. Roots and guarded words are forwarded; an entry of a table whose key died is for the caller to
+   clear (forward_weak, or weak words of the heap). Refusals, after which all is as it was: as by_roots. TOO_LARGE also
+   if more words are lost than there may be roots. BAD_ROOT has the number of a word among the roots, the ephemerons
+   (their values alone) and the guarded words, counted one behind the other. Memory: 8 bytes a guarded word more. */
+compressor_answer compressor_survey_guarded(uint32_t edition, const uint64_t *words, size_t word_count,
+                                            const uint64_t *roots, size_t root_count, const uint64_t *ephemerons,
+                                            size_t ephemeron_words, uint64_t *guarded, size_t guarded_count,
+                                            compressor_survey *survey, uint64_t *lost);
 
 /* Take no memory, but for a share: another handle of the same survey, for another thread, or memory. */
 compressor_answer compressor_survey_facts_of(compressor_survey *survey, compressor_survey_facts *facts);
@@ -431,7 +490,7 @@ compressor_answer compressor_survey_forward(compressor_survey *survey, uint64_t 
 compressor_answer compressor_survey_forward_weak(compressor_survey *survey, uint64_t *words, size_t word_count);
 void compressor_survey_drop(compressor_survey *survey);
 
-/* Tables with room for a survey of so many words, for collections without memory: two bits a word, 4 bytes for each 64
+/* Tables with room for a survey of so many words, for collections without memory: two bits a word, 8 bytes for each 64
    words, and 4 a word, of which a survey touches those of the objects that it reaches. Memory. */
 compressor_answer compressor_tables_reserve(uint64_t words, compressor_tables *tables);
 /* As compressor_collect and compressor_collect_in_place, by tables, which stay. Take no memory. Refusals: BAD_EDITION;
@@ -466,6 +525,65 @@ compressor_answer compressor_job_help(compressor_job *job, uint64_t who);
    heap as above: then the job is gone, and the survey is empty. */
 compressor_answer compressor_job_finish(compressor_job *job, compressor_survey *survey);
 void compressor_job_drop(compressor_job *job);
+
+/* A marking while the threads of the runtime go on, by looks. Its one marker, one thread at a time, hands in the row of
+   an object: its header, references and weak words, copied one after the other (compressor_copy_row of
+   compressor_rest.h). No call here reads the heap. It begins at a first stop, with all roots. At a second stop, in this
+   order: each object that was written to since its last look is looked at again; the roots are met; what waits is
+   looked at until none does; it is finished. Then the heap slides, by parts, by threads or by pages.
+   What the runtime keeps: an object whose card is clean, or that was not written to since its last look, has the
+   references and weak words that were looked at, and as many words. So the survey is that of the words at the second
+   stop, and no part is refused. If it does not, a part may be, and all is as of compressor_survey_by_bits.
+   begin, look, again and meet answer 1 if an object waits then to be looked at, else 0.
+   begin: word_count is that of the second stop; with objects that are made meanwhile, all of the room. Refusals:
+   BAD_EDITION, also of editions 1 and 2; TOO_LARGE; memory, two bits a word; BAD_ROOT.
+   waiting: the indices of the objects that wait, the next one first, `most` at most; answers how many. Takes no memory.
+   look: at the next objects that wait, by their rows in this order, one behind the other. Those to which references
+   lead wait then, each once. Refusals: NO_SUCH_OBJECT; TOO_SHORT (the words of a row); a fault that is there:
+   OBJECT_TOO_LONG, OBJECT_PAST_END, OVERLAP, BAD_REFERENCE or BAD_WEAK; memory, 4 bytes for each object that is met.
+   again: at the object with this index, by its row. Refusals: NO_SUCH_OBJECT, which needs no look, and the marking
+   stays; TOO_SHORT; BAD_REFERENCE or BAD_WEAK; memory.
+   meet: the objects to which values lead: the roots of now, or new objects. Refusals: BAD_ROOT (its number) or memory.
+   finish: the survey has what was looked at; answers the live words. The marking goes. Refusals: STILL_WAITING, and it
+   stays; TOO_LARGE, too many roots; BAD_ROOT, one to an object that was not met; memory.
+   Another refusal of look, again, meet or finish ends the marking, which goes: survey by the roots. */
+compressor_answer compressor_looks_begin(uint32_t edition, uint64_t word_count, const uint64_t *roots,
+                                         size_t root_count, compressor_looks *looks);
+compressor_answer compressor_looks_waiting(compressor_looks *looks, uint64_t *indices, size_t most);
+compressor_answer compressor_looks_look(compressor_looks *looks, const uint64_t *rows, size_t row_words);
+compressor_answer compressor_looks_again(compressor_looks *looks, uint64_t index, const uint64_t *row,
+                                         size_t row_words);
+compressor_answer compressor_looks_meet(compressor_looks *looks, const uint64_t *values, size_t value_count);
+compressor_answer compressor_looks_finish(compressor_looks *looks, const uint64_t *roots, size_t root_count,
+                                          compressor_survey *survey);
+void compressor_looks_drop(compressor_looks *looks);
+
+/* A slide by first touch: the roots are forwarded, and the threads of the runtime go on while its pages come home, each
+   built by whoever accesses it first. Page k has the live words from number k * page_words on; the last one may be
+   shorter. From-space stays as it was surveyed until the end; what is written goes to pages that are home.
+   begin: the survey goes, and other shares of it stay. Answers how many pages there are. Refusals, after which the
+   survey stays: NO_SIZE, if page_words is 0; memory, 8 bytes a page, as many more until it returns, and some 100.
+   share: another handle of the same pages, for another thread, without a turn, or memory. */
+compressor_answer compressor_pages_begin(compressor_survey *survey, uint64_t page_words, compressor_pages *pages);
+compressor_answer compressor_pages_share(compressor_pages *pages, compressor_pages *other);
+/* These take no memory, and try once. So a handler of a signal that a thread raises by an access (SIGSEGV, SIGBUS) may
+   make them, by a handle that no interrupted call uses; it never waits there for a page whose turn its own thread has.
+   claim: takes the turn for a page, which this handle then has alone; one at a time. Refusals: TURN_TAKEN (the page of
+   the turn that it has); NO_SUCH_PAGE (the page); PAGE_HOME (the page); PAGE_BUSY (the page): call again.
+   build: fills the page whose turn this handle has; `page` is its memory, which nobody else uses until it is published.
+   Refusals: NO_TURN, also if the page is built already, and all stays; OTHER_LENGTH (its words), if page_count is
+   another; OTHER_COUNT; CHANGED or UNMARKED, and the memory has any words. After these four the turn is gone, and the
+   page waits again. If the words are those of the survey, and page_count is right, it is done.
+   publish: says to all handles that the built page is home, after the runtime has made it accessible. What was written
+   to it before is seen by each thread that then finds PAGE_HOME. Refusals: NO_TURN; NOT_BUILT (the page). */
+compressor_answer compressor_pages_claim(compressor_pages *pages, uint64_t page);
+compressor_answer compressor_pages_build(compressor_pages *pages, const uint64_t *words, size_t word_count,
+                                         uint64_t *page, size_t page_count);
+compressor_answer compressor_pages_publish(compressor_pages *pages);
+/* Ends the pages, which go; the survey comes back, for compressor_survey_return. Takes no memory. Refusals: NOT_HOME (a
+   page); STILL_SHARED, if another handle keeps a share. drop: a page whose turn the handle had never comes home. */
+compressor_answer compressor_pages_end(compressor_pages *pages, compressor_survey *survey);
+void compressor_pages_drop(compressor_pages *pages);
 
 /* THE HEAP */
 
@@ -644,6 +762,7 @@ COMPRESSOR_ASSERT_(sizeof(compressor_heap) == 8 && sizeof(compressor_plan) == 8 
 COMPRESSOR_ASSERT_(sizeof(compressor_mutator) == 8 && sizeof(compressor_end) == 8, "handles");
 COMPRESSOR_ASSERT_(sizeof(compressor_survey) == 8 && sizeof(compressor_tables) == 8 && sizeof(compressor_job) == 8,
                    "handles");
+COMPRESSOR_ASSERT_(sizeof(compressor_looks) == 8 && sizeof(compressor_pages) == 8, "handles");
 COMPRESSOR_ASSERT_(sizeof(compressor_answer) == 16 && offsetof(compressor_answer, other) == 4, "answer");
 COMPRESSOR_ASSERT_(offsetof(compressor_answer, value) == 8, "answer");
 COMPRESSOR_ASSERT_(sizeof(compressor_entry) == 24 && offsetof(compressor_entry, writer) == 16, "entry");

@@ -39,6 +39,17 @@ CALL(survey_by_marks,
       const uint64_t *marks, size_t block_count, compressor_survey *survey),
      (edition, IN(words, word_count), word_count, IN(roots, root_count), root_count, IN(marks, block_count),
       block_count, survey))
+CALL(survey_by_bits,
+     (uint32_t edition, uint64_t word_count, const uint64_t *roots, size_t root_count, const uint64_t *heads,
+      size_t head_count, const uint64_t *live, size_t live_count, compressor_survey *survey),
+     (edition, word_count, IN(roots, root_count), root_count, IN(heads, head_count), head_count,
+      IN(live, live_count), live_count, survey))
+CALL(survey_guarded,
+     (uint32_t edition, const uint64_t *words, size_t word_count, const uint64_t *roots, size_t root_count,
+      const uint64_t *ephemerons, size_t ephemeron_words, uint64_t *guarded, size_t guarded_count,
+      compressor_survey *survey, uint64_t *lost),
+     (edition, IN(words, word_count), word_count, IN(roots, root_count), root_count, IN(ephemerons, ephemeron_words),
+      ephemeron_words, OUT(guarded, guarded_count), guarded_count, survey, lost))
 CALL(survey_by_roots_lent,
      (compressor_tables *tables, uint32_t edition, const uint64_t *words, size_t word_count, const uint64_t *roots,
       size_t root_count, compressor_survey *survey),
@@ -51,6 +62,21 @@ CALL(survey_forward, (compressor_survey *survey, uint64_t *roots, size_t root_co
      (survey, OUT(roots, root_count), root_count))
 CALL(survey_forward_weak, (compressor_survey *survey, uint64_t *words, size_t word_count),
      (survey, OUT(words, word_count), word_count))
+CALL(looks_begin,
+     (uint32_t edition, uint64_t word_count, const uint64_t *roots, size_t root_count, compressor_looks *looks),
+     (edition, word_count, IN(roots, root_count), root_count, looks))
+CALL(looks_waiting, (compressor_looks *looks, uint64_t *indices, size_t most), (looks, OUT(indices, most), most))
+CALL(looks_look, (compressor_looks *looks, const uint64_t *rows, size_t row_words),
+     (looks, IN(rows, row_words), row_words))
+CALL(looks_again, (compressor_looks *looks, uint64_t index, const uint64_t *row, size_t row_words),
+     (looks, index, IN(row, row_words), row_words))
+CALL(looks_meet, (compressor_looks *looks, const uint64_t *values, size_t value_count),
+     (looks, IN(values, value_count), value_count))
+CALL(looks_finish, (compressor_looks *looks, const uint64_t *roots, size_t root_count, compressor_survey *survey),
+     (looks, IN(roots, root_count), root_count, survey))
+CALL(pages_build,
+     (compressor_pages *pages, const uint64_t *words, size_t word_count, uint64_t *page, size_t page_count),
+     (pages, IN(words, word_count), word_count, OUT(page, page_count), page_count))
 CALL(job_begin,
      (uint32_t edition, const uint64_t *words, size_t word_count, const uint64_t *roots, size_t root_count,
       compressor_job *job),

@@ -6,7 +6,9 @@ mod crew;
 mod end;
 mod heap;
 mod job;
+mod looks;
 mod mutator;
+mod pages;
 mod plan;
 mod rest;
 

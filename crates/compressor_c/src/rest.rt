@@ -1,5 +1,7 @@
 //! Exports for a heap at rest: collections, surveys, and tables that are made before.
 ghost use Rattle.std.specs.Prelude.{◌≡◌, None};
+ghost use Rattle.comp_handle.specs.ByBits.{SurveysByBits};
+ghost use Rattle.comp_handle.specs.Guarding.{SurveysGuarded};
 ghost use Rattle.comp_handle.specs.HandleKinds.{survey_in, tables_in, Asks, Fills, Turns};
 ghost use Rattle.comp_handle.specs.Lending.{CollectsLent, CollectsLentInPlace, IsStillShared, IsUnlent, Reserves, Returns, SurveysLent};
 ghost use Rattle.comp_handle.specs.Resting.{Collects, CollectsInPlace, CountsSurvey, ForwardsRoots, ForwardsWeak, Shares, Slides, SurveysByMarks, SurveysByRoots};
@@ -92,6 +94,42 @@ pub extern "C" fn compressor_c_survey_by_marks(
     ensures { SurveysByMarks edition words.now roots.now marks.now survey.old.kept survey.new.kept result }
 {
     comp_handle::survey_by_marks(alloc, edition, words, roots, marks, survey)
+}
+
+/// The same by bits of the caller's own, of the first words of objects and of all their words, with no look at the words
+/// of the heap.
+#[unsafe(no_mangle)]
+pub extern "C" fn compressor_c_survey_by_bits(
+    alloc: Global,
+    edition: u32,
+    count: u64,
+    roots: &[u64],
+    heads: &[u64],
+    live: &[u64],
+    survey: &mut Handle,
+) -> Answer
+    ensures { SurveysByBits edition count roots.now heads.now live.now survey.old.kept survey.new.kept result }
+{
+    comp_handle::survey_by_bits(alloc, edition, count, roots, heads, live, survey)
+}
+
+/// Surveys the heap of these words and roots with ephemerons and guarded words, which are told apart.
+#[unsafe(no_mangle)]
+pub extern "C" fn compressor_c_survey_guarded(
+    alloc: Global,
+    edition: u32,
+    words: &[u64],
+    roots: &[u64],
+    ephemerons: &[u64],
+    guarded: &mut [u64],
+    survey: &mut Handle,
+    lost: &mut u64,
+) -> Answer
+    ensures { SurveysGuarded edition words.now roots.now ephemerons.now guarded.old guarded.new lost.old lost.new survey.old.kept survey.new.kept result }
+{
+    comp_handle::survey_guarded(
+        alloc, edition, words, roots, ephemerons, guarded, survey, lost,
+    )
 }
 
 /// Surveys the heap of these words and roots by tables that were made before. The handle of the survey has them then.

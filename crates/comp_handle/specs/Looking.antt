@@ -1,0 +1,95 @@
+-- The steps of a marking by looks, by handles. Each is a fact of what the marking was before it and is after it.
+use Rattle.std.specs.Prelude.{◌≡◌, ℕ, ◌+◌, ◌<◌, ◌≤◌, ◌⊎◌, false, true, List, length, slice_index, Option, None, Some}
+use Rattle.heap_layout.specs.Bits.{bit}
+use Rattle.heap_layout.specs.Heap.{object_at}
+use Rattle.stopped_heap.specs.LookFaults.{IsLookAgainFault, IsMeetFault, IsRowsFault}
+use Rattle.stopped_heap.specs.Looks.{met_by, met_by_rows, rows_of, AreLooked, AreRowsAt, AreSameBut, IsAt, Looking}
+use Rattle.stopped_heap.specs.declared.fault.LookFault.{LookFault}
+use Rattle.stopped_heap.specs.declared.fault.LookFault.TheVariants as look
+use Rattle.stopped_heap.specs.declared.fault.MeetFault.{MeetFault}
+use Rattle.stopped_heap.specs.declared.fault.MeetFault.TheVariants as meet
+use Rattle.comp_handle.specs.Answers.{bare}
+use Rattle.comp_handle.specs.HandleKinds.{looks_in, Asks}
+use Rattle.comp_handle.specs.Looks.{SaysWaiting}
+use Rattle.comp_handle.specs.declared.answer.Answer.{Answer}
+use Rattle.comp_handle.specs.declared.kept.Kept.{Kept}
+
+-- an object was not looked at
+abbrev pub of_look : LookFault → Answer
+of_look look.NoSuchObject = bare 210 0
+of_look (look.ShortRun n) = bare 22 n
+of_look (look.ObjectTooLong i) = bare 35 i
+of_look (look.ObjectPastEnd i) = bare 34 i
+of_look (look.Overlap i) = bare 135 i
+of_look (look.BadReference i) = bare 131 i
+of_look (look.BadWeak i) = bare 45 i
+of_look look.OutOfMemory = bare 9 0
+
+-- values were not met
+abbrev pub of_meet : MeetFault → Answer
+of_meet (meet.BadValue k) = bare 38 k
+of_meet meet.OutOfMemory = bare 9 0
+
+-- what stays of a marking in each step: the edition, the number of words, and what was met, in its order
+pub record GoesOn (before after : Looking) : Type 0 where
+  pub edition_is : after.edition ≡ before.edition
+  pub count_is : after.count ≡ before.count
+  pub stay : (k : ℕ) → k < length before.met → slice_index after.met k ≡ slice_index before.met k
+
+-- The next objects that waited were looked at, one for each row. In all words in which the rows stand where these
+-- objects are, and the objects that were looked at before are as they must be, so are those that were looked at then.
+pub record HasLooked (rows : List ℕ) (before after : Looking) : Type 0 where
+  pub goes_on : GoesOn before after
+  pub many : after.looked ≡ before.looked + length (rows_of before.edition rows)
+  pub waited : after.looked ≤ length after.met
+  pub met : after.met ≡ met_by_rows before.edition before.count before.met (rows_of before.edition rows)
+  pub looked : (words : List ℕ) → length words ≡ before.count
+      → AreRowsAt words after.met before.looked (rows_of before.edition rows) → AreLooked before words → AreLooked after words
+
+-- The object at index i was looked at again. What was right of the words of before is right of those of now, if all
+-- other objects that were looked at are the same in both, and this one is as long.
+pub record HasLookedAgain (i : ℕ) (row : List ℕ) (before after : Looking) : Type 0 where
+  pub goes_on : GoesOn before after
+  pub many : after.looked ≡ before.looked
+  pub met : after.met ≡ met_by before.count before.met (object_at before.edition row 0).references
+  pub looked : (old now : List ℕ) → length old ≡ before.count → length now ≡ before.count → IsAt now i row
+      → AreSameBut before.edition old now before.met before.looked i → AreLooked before old → AreLooked after now
+
+-- the objects to which these values lead were met
+pub record HasMet (values : List ℕ) (before after : Looking) : Type 0 where
+  pub goes_on : GoesOn before after
+  pub many : after.looked ≡ before.looked
+  pub met : after.met ≡ met_by before.count before.met values
+  pub looked : (words : List ℕ) → AreLooked before words → AreLooked after words
+
+-- P of the marking before and after, which the handle keeps still; or the marking ended, its handle is empty, and Q
+abbrev pub StepsOn : (Looking → Looking → Answer → Type 0) → (Looking → Answer → Type 0) → Option Kept → Looking
+    → Answer → Type 0
+StepsOn P Q left looks a =
+    ((after : Looking) × (looks_in left ≡ Some after) × P looks after a) ⊎ ((left ≡ None) × Q looks a)
+
+-- the same of the marking that the handle keeps; or it keeps none, and stays
+abbrev pub Steps : (Looking → Looking → Answer → Type 0) → (Looking → Answer → Type 0) → Option Kept → Option Kept
+    → Answer → Type 0
+Steps P Q from left a = Asks 0 looks_in (StepsOn P Q left) (left ≡ from) from a
+
+-- the next objects that wait are looked at; or the answer says why not
+abbrev pub LooksAtRows : List ℕ → Option Kept → Option Kept → Answer → Type 0
+LooksAtRows rows from left a =
+    Steps (λ before after b. HasLooked rows before after × SaysWaiting after b)
+    (λ before b. (fault : LookFault) × (b ≡ of_look fault) × IsRowsFault before (rows_of before.edition rows) fault)
+    from left a
+
+-- The object at index i is looked at again; or the answer says why not. If no object was met there, the marking stays.
+abbrev pub LooksAgain : ℕ → List ℕ → Option Kept → Option Kept → Answer → Type 0
+LooksAgain i row from left a =
+    Asks 0 looks_in (λ looks b. ((bit looks.heads i ≡ false) × (left ≡ from) × (b ≡ bare 210 i))
+    ⊎ ((bit looks.heads i ≡ true) × StepsOn (λ before after c. HasLookedAgain i row before after × SaysWaiting after c)
+    (λ before c. (fault : LookFault) × (c ≡ of_look fault) × IsLookAgainFault before i row fault) left looks b))
+    (left ≡ from) from a
+
+-- the objects to which these values lead are met; or the answer says why not
+abbrev pub MeetsValues : List ℕ → Option Kept → Option Kept → Answer → Type 0
+MeetsValues values from left a =
+    Steps (λ before after b. HasMet values before after × SaysWaiting after b)
+    (λ before b. (fault : MeetFault) × (b ≡ of_meet fault) × IsMeetFault before values fault) from left a
