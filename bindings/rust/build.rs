@@ -10,20 +10,33 @@ fn main() {
         println!("cargo:rerun-if-env-changed={it}");
     }
     let (lib, include) = match env::var_os("COMPRESSOR_DIR") {
-        Some(prefix) => (Path::new(&prefix).join("lib"), Path::new(&prefix).join("include")),
+        Some(prefix) => below(Path::new(&prefix)),
         None => by_pkg_config(),
     };
-    // The static archive, so that a program stands alone; the shared library where there is no other.
+    // The static archive, so that a program stands alone; the shared library where there is no other, or by the
+    // feature `shared`.
     let archive = lib.join("libcompressor.a");
-    let kind = if archive.exists() { "static" } else { "dylib" };
+    let is_shared = env::var_os("CARGO_FEATURE_SHARED").is_some();
+    let kind = if archive.exists() && !is_shared { "static" } else { "dylib" };
     if kind == "dylib" && !lib.join("libcompressor.so").exists() {
-        fail(&format!("there is no libcompressor.a and no libcompressor.so in {}", lib.display()));
+        let archives = if is_shared { "" } else { "no libcompressor.a and " };
+        fail(&format!("there is {archives}no libcompressor.so in {}", lib.display()));
     }
     println!("cargo:rerun-if-changed={}", archive.display());
     println!("cargo:rustc-link-search=native={}", lib.display());
     println!("cargo:rustc-link-lib={kind}=compressor");
     println!("cargo:include={}", include.display());
+    println!("cargo:libdir={}", lib.display());
     println!("cargo:rustc-env=COMPRESSOR_INCLUDE={}", include.display());
+}
+
+/// The folders of the library and of its headers below the prefix of an installation.
+fn below(prefix: &Path) -> (PathBuf, PathBuf) {
+    let libs = ["lib", "lib64", "lib/x86_64-linux-gnu"].map(|it| prefix.join(it));
+    let has =
+        |it: &&PathBuf| it.join("libcompressor.a").exists() || it.join("libcompressor.so").exists();
+    let lib = libs.iter().find(has).unwrap_or(&libs[0]).clone();
+    (lib, prefix.join("include"))
 }
 
 /// The folders of the library and of its headers, of a version with which this crate may be linked.

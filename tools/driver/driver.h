@@ -6,7 +6,7 @@
      heaps.c     marked heaps and plans, and what they refuse; judge.c what another collector left of them
      cycle.c     flips, crews and mutators by one thread; act.c has what a mutator is asked
      end.c       finished cycles, next heaps
-     rest.c      heaps at rest; faults.c what is refused there
+     rest.c      heaps at rest; looks.c their marking by looks; pages.c their slides by pages; faults.c what is refused
      handles.c   empty, full and wrong handles; limits.c editions: shapes, immediates, what is too large
      threads.c   a cycle by four threads; together.c what else they do together */
 #ifndef DRIVER_H
@@ -216,6 +216,11 @@ void cycle_next(cycle *c, compressor_heap *heap);
 uint64_t *cycle_rest(cycle *c);
 
 void rest_round(graph *g, uint64_t *words, uint64_t count);
+/* A marking by looks, of a heap whose live objects begin at these bits; none are handed in if it has a fault. Answers
+   as its last step does. */
+compressor_answer survey_by_looks(uint32_t edition, uint64_t *words, uint64_t count, const uint64_t *roots,
+                                  size_t root_count, const uint64_t *heads, compressor_survey *survey);
+void slide_pages(compressor_survey *survey, const uint64_t *words, uint64_t count, uint64_t live, uint64_t *to);
 void rest_faults(graph *g, const uint64_t *words, uint64_t count);
 void handles_round(void);
 void limits_round(void);

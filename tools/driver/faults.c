@@ -45,6 +45,7 @@ static void collect_faulty(const faulty *f, uint64_t how) {
     else if (how == 3) CALL(a, collect_in_place_lent, &tables, FAULTY);
     else if (how == 4) CALL(a, survey_by_roots, FAULTY, &survey);
     else if (how == 5) CALL(a, survey_by_roots_lent, &tables, FAULTY, &survey);
+    else if (how == 6) a = survey_by_looks(FAULTY, NULL, &survey);
     else {
         DONE(0, job_begin, FAULTY, &job);
         if (one_in(2)) CALL(a, job_help, &job, 1);
@@ -67,19 +68,27 @@ static void mark_faulty(const faulty *f) {
     compressor_survey survey = COMPRESSOR_EMPTY;
     compressor_answer a;
     const size_t blocks = (f->count + 63) / 64;
-    uint64_t *marks = (uint64_t *)zeros(blocks, sizeof *marks);
-    for (size_t i = 0; i < f->g->count; i++)
-        if (f->g->objects[i].is_live) compressor_mark(marks, FROM + f->g->objects[i].place);
+    uint64_t *marks = (uint64_t *)zeros(blocks, sizeof *marks), *live = (uint64_t *)zeros(blocks, sizeof *live);
+    for (size_t i = 0; i < f->g->count; i++) {
+        const object *o = &f->g->objects[i];
+        if (!o->is_live) continue;
+        compressor_mark(marks, FROM + o->place);
+        compressor_mark_live(live, FROM + o->place, o->words);
+    }
     CALL(a, survey_by_marks, FAULTY, marks, blocks, &survey);
     refused(f, a, 1);
+    if (f->status == COMPRESSOR_BAD_ROOT && f->g->edition >= 3)
+        ANSWERS(COMPRESSOR_BAD_ROOT, f->number, survey_by_bits, f->g->edition, f->count, f->roots, f->root_count, marks,
+                blocks, live, blocks, &survey);
     ANSWERS(COMPRESSOR_EMPTY_HANDLE, 0, survey_facts_of, &survey, &(compressor_survey_facts){0});
     free(marks);
+    free(live);
 }
 
 static void refuse(faulty *f, uint32_t status, uint64_t number) {
     f->status = status;
     f->number = number;
-    collect_faulty(f, below(7));
+    collect_faulty(f, below(8));
     if (one_in(2)) mark_faulty(f);
 }
 

@@ -13,6 +13,8 @@ typedef struct all {
     compressor_survey survey, survey_share;
     compressor_tables tables;
     compressor_job job, job_share;
+    compressor_looks looks;
+    compressor_pages pages, pages_share;
     uint64_t words[64];
     uint32_t marks[1];
     uint8_t bytes[64];
@@ -39,6 +41,17 @@ static void ask_empty(all *a) {
     EMPTY(job_share, &a->job, &a->job_share);
     EMPTY(job_help, &a->job, 1);
     EMPTY(job_finish, &a->job, &a->survey);
+    EMPTY(looks_waiting, &a->looks, a->words, 1);
+    EMPTY(looks_look, &a->looks, a->words, 1);
+    EMPTY(looks_again, &a->looks, 0, a->words, 1);
+    EMPTY(looks_meet, &a->looks, a->words, 1);
+    EMPTY(looks_finish, &a->looks, a->words, 1, &a->survey);
+    EMPTY(pages_begin, &a->survey, 0, &a->pages);
+    EMPTY(pages_share, &a->pages, &a->pages_share);
+    EMPTY(pages_claim, &a->pages, 0);
+    EMPTY(pages_build, &a->pages, a->words, 1, a->words + 1, 1);
+    EMPTY(pages_publish, &a->pages);
+    EMPTY(pages_end, &a->pages, &a->survey);
     EMPTY(heap_facts_of, &a->heap, &a->heap_facts);
     EMPTY(heap_write, &a->heap, a->bytes, 64);
     EMPTY(heap_judge, &a->heap, a->bytes, 64);
@@ -93,6 +106,9 @@ static void drop_all(all *a) {
     DROP(tables_drop, &a->tables);
     DROP(job_drop, &a->job);
     DROP(job_drop, &a->job_share);
+    DROP(looks_drop, &a->looks);
+    DROP(pages_drop, &a->pages);
+    DROP(pages_drop, &a->pages_share);
 }
 
 #define FULL(which, name, ...) ANSWERS(COMPRESSOR_NOT_EMPTY, which, name, __VA_ARGS__)
@@ -122,6 +138,10 @@ static void ask_full(all *a, compressor_heap *heap) {
     DONE(0, survey_share, &a->survey, &a->survey_share);
     DONE(0, job_begin, 4, a->words, 3, a->words, 0, &a->job);
     DONE(0, job_share, &a->job, &a->job_share);
+    DONE(0, looks_begin, 4, 3, a->words, 0, &a->looks);
+    DONE(0, pages_begin, &a->survey, 1, &a->pages);
+    DONE(0, pages_share, &a->pages, &a->pages_share);
+    DONE(0, survey_by_roots, 4, a->words, 3, a->words, 0, &a->survey);
 
     FULL(0, heap_by_marks, 9, a->words, 3, a->marks, 0, a->words, 0, &a->heap);
     FULL(0, heap_by_roots, 9, a->words, 3, a->words, 0, &a->heap);
@@ -132,12 +152,20 @@ static void ask_full(all *a, compressor_heap *heap) {
     FULL(1, crew_take, &a->crew, &a->mutator);
     FULL(0, survey_by_roots, 9, a->words, 3, a->words, 0, &a->survey);
     FULL(0, survey_by_marks, 9, a->words, 3, a->words, 0, a->words, 0, &a->survey);
+    FULL(0, survey_by_bits, 9, 3, a->words, 0, a->words, 0, a->words, 0, &a->survey);
+    uint64_t lost = 7;
+    FULL(0, survey_guarded, 9, a->words, 3, a->words, 0, a->words, 0, a->words, 0, &a->survey, &lost);
     FULL(1, survey_by_roots_lent, &a->tables, 9, a->words, 3, a->words, 0, &a->survey);
     FULL(1, survey_share, &a->survey, &a->survey_share);
     FULL(1, survey_return, &a->survey, &a->tables);
     FULL(0, job_begin, 9, a->words, 3, a->words, 0, &a->job);
     FULL(1, job_share, &a->job, &a->job_share);
     FULL(1, job_finish, &a->job, &a->survey);
+    FULL(0, looks_begin, 9, 3, a->words, 0, &a->looks);
+    FULL(1, looks_finish, &a->looks, a->words, 0, &a->survey);
+    FULL(1, pages_begin, &a->survey, 0, &a->pages);
+    FULL(1, pages_share, &a->pages, &a->pages_share);
+    FULL(1, pages_end, &a->pages, &a->survey);
     DONE(0, heap_facts_of, &a->heap, &a->heap_facts);
     SAME(a->heap_facts.words, 3);
 
@@ -145,6 +173,12 @@ static void ask_full(all *a, compressor_heap *heap) {
     WRONG(heap_facts_of, (compressor_heap *)(void *)&a->plan, &a->heap_facts);
     WRONG(mutator_touch, (compressor_mutator *)(void *)&a->crew, 0);
     WRONG(survey_return, (compressor_survey *)(void *)&a->job, &(compressor_tables)COMPRESSOR_EMPTY);
+    WRONG(looks_waiting, (compressor_looks *)(void *)&a->job, a->words, 1);
+    WRONG(looks_look, (compressor_looks *)(void *)&a->job, a->words, 1);
+    WRONG(looks_finish, (compressor_looks *)(void *)&a->pages, a->words, 0, &(compressor_survey)COMPRESSOR_EMPTY);
+    WRONG(pages_claim, (compressor_pages *)(void *)&a->survey, 0);
+    WRONG(pages_begin, (compressor_survey *)(void *)&a->pages, 1, &(compressor_pages)COMPRESSOR_EMPTY);
+    WRONG(pages_end, (compressor_pages *)(void *)&a->job, &(compressor_survey)COMPRESSOR_EMPTY);
     WRONG(crew_finish, (compressor_crew *)(void *)&a->plan, &a->end);
     SAME(a->heap_facts.words, 3);
 

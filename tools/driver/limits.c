@@ -65,10 +65,12 @@ void limits_round(void) {
     compressor_survey survey = COMPRESSOR_EMPTY;
     compressor_tables tables = COMPRESSOR_EMPTY;
     compressor_job job = COMPRESSOR_EMPTY;
+    compressor_looks looks = COMPRESSOR_EMPTY;
     compressor_end end = COMPRESSOR_EMPTY;
     uint32_t marks[1] = {0};
     DONE(0, tables_reserve, 2, &tables);
     for (uint32_t edition = 1; edition <= 2; edition++) {
+        const uint64_t too_many = compressor_max_words(edition + 2) + 1;
         ANSWERS(COMPRESSOR_TOO_LARGE, 0, heap_by_roots, edition, words, 2, roots, ROOTS, &heap);
         ANSWERS(COMPRESSOR_TOO_LARGE, 0, heap_by_marks, edition, words, 2, marks, 0, roots, ROOTS, &heap);
         ANSWERS(COMPRESSOR_TOO_LARGE, 0, collect, edition, words, 2, roots, ROOTS, to, 2);
@@ -77,6 +79,10 @@ void limits_round(void) {
         ANSWERS(COMPRESSOR_TOO_LARGE, 0, survey_by_roots, edition, words, 2, roots, ROOTS, &survey);
         ANSWERS(COMPRESSOR_TOO_LARGE, 0, survey_by_roots_lent, &tables, edition, words, 2, roots, ROOTS, &survey);
         ANSWERS(COMPRESSOR_TOO_LARGE, 0, survey_by_marks, edition, words, 2, roots, ROOTS, words, 1, &survey);
+        ANSWERS(COMPRESSOR_BAD_EDITION, edition, survey_by_bits, edition, 2, roots, ROOTS, words, 1, words, 1, &survey);
+        ANSWERS(COMPRESSOR_TOO_LARGE, 0, survey_by_bits, edition + 2, too_many, roots, 1, words, 1, words, 1, &survey);
+        ANSWERS(COMPRESSOR_BAD_EDITION, edition, looks_begin, edition, too_many, roots, ROOTS, &looks);
+        ANSWERS(COMPRESSOR_TOO_LARGE, 0, looks_begin, edition + 2, too_many, roots, 1, &looks);
         ANSWERS(COMPRESSOR_TOO_LARGE, 0, job_begin, edition, words, 2, roots, ROOTS, &job);
         DONE(0, heap_by_roots, edition + 2, words, 2, roots, ROOTS, &heap);
         DROP(heap_drop, &heap);

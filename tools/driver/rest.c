@@ -133,11 +133,12 @@ static void collect_at_once(rest *r, uint64_t how) {
     else moved(r);
 }
 
-/* Slides by parts, in any order, each by a share or by the survey itself. */
+/* Slides by pages; or by parts, in any order, each by a share or by the survey itself. */
 static void slide_parts(rest *r, compressor_survey *survey) {
-    const uint64_t parts = 1 + below(5), start = below(parts);
+    const uint64_t parts = one_in(3) ? 0 : 1 + below(5), start = parts > 0 ? below(parts) : 0;
     compressor_survey share = COMPRESSOR_EMPTY;
     DONE(0, survey_share, survey, &share);
+    if (parts == 0) slide_pages(survey, r->words, r->count, r->live, r->to);
     for (uint64_t i = 0; i < parts; i++) {
         size_t count;
         const uint64_t first = compressor_part(r->live, parts, (start + i) % parts, &count);
@@ -219,14 +220,77 @@ static void survey_by_job(rest *r, compressor_survey *survey) {
     ANSWERS(COMPRESSOR_EMPTY_HANDLE, 0, job_help, &job, 0);
 }
 
-static void collect_by_survey(rest *r, uint64_t how, const uint64_t *marks, size_t blocks) {
+/* Some roots as roots, and all of them guarded: together these hold what all roots do. */
+static void survey_with_guards(rest *r, compressor_survey *survey) {
+    size_t count = r->g->root_count, some = below(count + 1);
+    uint64_t *guarded = copy_of(r->roots, count), lost = count + 1;
+    DONE(r->live, survey_guarded, r->g->edition, r->words, r->count, r->roots, some, r->roots, 0, guarded, count,
+         survey, &lost);
+    IS(lost <= count - some);
+    for (size_t k = 0, j = 0; k < count; k++) { /* both keep their order */
+        if (j < lost && guarded[j] == r->roots[k]) j++;
+        else IS(guarded[lost + k - j] == r->roots[k]);
+    }
+    free(guarded);
+}
+
+/* The bits of a marker: of the first words of the live objects, and of all their words. */
+typedef struct bits {
+    uint64_t *heads, *live;
+    size_t blocks;
+} bits;
+
+#define BITS(heads_, live_) r->count, r->roots, r->g->root_count, heads_, b->blocks, live_, b->blocks
+
+/* What is refused of bits that are no runs. */
+static void spoil_bits(rest *r, const bits *b, compressor_survey *survey) {
+    uint64_t *heads = copy_of(b->heads, b->blocks), *live = copy_of(b->live, b->blocks);
+    const uint64_t i = below(r->count), bit = UINT64_C(1) << (i % 64);
+    const int was_live = compressor_is_marked(live, FROM + i), was_head = compressor_is_marked(heads, FROM + i);
+    const int is_behind = i > 0 && compressor_is_marked(live, FROM + i - 1);
+    const uint32_t edition = r->g->edition;
+    live[i / 64] ^= bit;
+    if (was_head || !is_behind) ANSWERS(COMPRESSOR_NOT_A_RUN, i, survey_by_bits, edition, BITS(heads, live), survey);
+    live[i / 64] ^= bit;
+    heads[i / 64] ^= bit;
+    if (!was_live || (was_head && !is_behind))
+        ANSWERS(COMPRESSOR_NOT_A_RUN, i, survey_by_bits, edition, BITS(heads, live), survey);
+    heads[i / 64] ^= bit;
+    if (r->count % 64 != 0) {
+        compressor_mark(heads, FROM + r->count);
+        compressor_mark_live(live, FROM + r->count, 1);
+        ANSWERS(COMPRESSOR_OBJECT_PAST_END, r->count, survey_by_bits, edition, BITS(heads, live), survey);
+    }
+    free(heads);
+    free(live);
+}
+
+static void survey_by_bits(rest *r, const bits *b, compressor_survey *survey) {
+    const uint32_t edition = r->g->edition;
+    if (edition < 3) {
+        ANSWERS(COMPRESSOR_BAD_EDITION, edition, survey_by_bits, edition, BITS(b->heads, b->live), survey);
+        DONE(r->live, survey_by_marks, HEAP, b->heads, b->blocks, survey);
+        return;
+    }
+    ANSWERS(COMPRESSOR_WRONG_LENGTH, 0, survey_by_bits, edition, r->count + 64, r->roots, 0, b->heads, b->blocks, b->live,
+            b->blocks + 1, survey);
+    ANSWERS(COMPRESSOR_WRONG_LENGTH, 0, survey_by_bits, edition, r->count + 64, r->roots, 0, b->heads, b->blocks + 1,
+            b->live, b->blocks, survey);
+    if (r->count > 0) spoil_bits(r, b, survey);
+    DONE(r->live, survey_by_bits, edition, BITS(b->heads, b->live), survey);
+}
+
+static void collect_by_survey(rest *r, uint64_t how, const bits *b) {
     compressor_survey survey = COMPRESSOR_EMPTY, share = COMPRESSOR_EMPTY;
     compressor_tables tables = COMPRESSOR_EMPTY;
     uint64_t room = 0;
-    if (how == 4) DONE(r->live, survey_by_roots, HEAP, &survey);
+    if (how == 4) {
+        if (one_in(2)) DONE(r->live, survey_by_roots, HEAP, &survey);
+        else survey_with_guards(r, &survey);
+    }
     if (how == 5) {
-        ANSWERS(COMPRESSOR_WRONG_LENGTH, 0, survey_by_marks, HEAP, marks, blocks + 1, &survey);
-        DONE(r->live, survey_by_marks, HEAP, marks, blocks, &survey);
+        ANSWERS(COMPRESSOR_WRONG_LENGTH, 0, survey_by_marks, HEAP, b->heads, b->blocks + 1, &survey);
+        DONE(r->live, survey_by_marks, HEAP, b->heads, b->blocks, &survey);
     }
     if (how == 6) {
         lend(r, &tables, &room);
@@ -234,6 +298,8 @@ static void collect_by_survey(rest *r, uint64_t how, const uint64_t *marks, size
         ANSWERS(COMPRESSOR_EMPTY_HANDLE, 0, collect_in_place_lent, &tables, HEAP);
     }
     if (how == 7) survey_by_job(r, &survey);
+    if (how == 8) survey_by_bits(r, b, &survey);
+    if (how == 9) answers(survey_by_looks(HEAP, b->heads, &survey), COMPRESSOR_DONE, r->live, 0);
     ask_survey(r, &survey);
     if (one_in(4)) ask_another(r);
     slide_parts(r, &survey);
@@ -249,35 +315,36 @@ static void collect_by_survey(rest *r, uint64_t how, const uint64_t *marks, size
     moved(r);
 }
 
-/* The bits of the live objects. */
-static uint64_t *bits_of(const rest *r, size_t *blocks) {
-    uint64_t *marks;
-    *blocks = (r->count + 63) / 64;
-    marks = (uint64_t *)zeros(*blocks + 1, sizeof *marks);
+static bits bits_of(const rest *r) {
+    bits b;
+    b.blocks = (r->count + 63) / 64;
+    b.heads = (uint64_t *)zeros(b.blocks + 1, sizeof *b.heads);
+    b.live = (uint64_t *)zeros(b.blocks + 1, sizeof *b.live);
     for (size_t i = 0; i < r->g->count; i++) {
         const object *o = &r->g->objects[i];
         if (!o->is_live) continue;
-        IS(compressor_mark(marks, FROM + o->place) && !compressor_mark(marks, FROM + o->place));
-        IS(compressor_is_marked(marks, FROM + o->place));
+        IS(compressor_mark(b.heads, FROM + o->place) && !compressor_mark(b.heads, FROM + o->place));
+        IS(compressor_is_marked(b.heads, FROM + o->place));
+        compressor_mark_live(b.live, FROM + o->place, o->words);
     }
-    return marks;
+    return b;
 }
 
 /* The graph lies at rest in these words, which go. */
 void rest_round(graph *g, uint64_t *words, uint64_t count) {
     rest all = {g, words, count, NULL, NULL, NULL, NULL, 0}, *r = &all;
     for (uint64_t times = 1 + below(8); times > 0; times--) {
-        const uint64_t how = below(8);
-        size_t blocks;
-        uint64_t *marks;
+        const uint64_t how = below(10);
+        bits b;
         go_on(r);
-        expect(r, how == 5);
+        expect(r, how == 5 || how == 8);
         if (one_in(3)) rest_faults(g, r->words, r->count);
-        marks = bits_of(r, &blocks);
+        b = bits_of(r);
         slid(r);
         if (how < 4) collect_at_once(r, how);
-        else collect_by_survey(r, how, marks, blocks);
-        free(marks);
+        else collect_by_survey(r, how, &b);
+        free(b.heads);
+        free(b.live);
     }
     free(r->words);
 }

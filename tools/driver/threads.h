@@ -19,12 +19,14 @@ typedef struct worker {
     compressor_plan plan; /* shares of its own */
     compressor_survey survey;
     compressor_job job;
+    compressor_pages pages;
     /* a cycle: it has each fourth of the slid objects, and those that it made, which are numbered from `first` on */
     size_t slid, first, made;
     uint64_t actions, entries, stamp, made_words, builds, found;
     /* the rest: words, and where they go */
     const uint64_t *words;
     uint64_t count, live, *to;
+    uint64_t page_words, pages_count;
     const bytes *dump;
 } worker;
 

@@ -85,11 +85,61 @@ static void mark_together(graph *g, const uint64_t *words, uint64_t count, const
     DONE(live, job_finish, &job, survey);
 }
 
-/* The heap at rest, whose words go: all mark it, and all slide it. */
+/* Touches all pages, from one of its own on. Some turns come to nothing, and the page waits again. */
+static void *touch(void *given) {
+    worker *w = (worker *)given;
+    begin_thread(w);
+    w->builds = 0;
+    for (uint64_t k = 0; k < w->pages_count;) {
+        const uint64_t page = (k + w->number * 5) % w->pages_count, first = page * w->page_words;
+        const uint64_t left = w->live - first, length = left < w->page_words ? left : w->page_words;
+        compressor_answer a;
+        CALL(a, pages_claim, &w->pages, page);
+        if (a.status == COMPRESSOR_PAGE_BUSY) continue;
+        k++;
+        if (a.status == COMPRESSOR_PAGE_HOME) continue;
+        answers(a, COMPRESSOR_DONE, 0, 0);
+        if (one_in(9)) {
+            ANSWERS(COMPRESSOR_OTHER_COUNT, 0, pages_build, &w->pages, w->words, w->count - 1, w->to + first, length);
+            k--;
+            continue;
+        }
+        DONE(0, pages_build, &w->pages, w->words, w->count, w->to + first, length);
+        DONE(0, pages_publish, &w->pages);
+        w->builds++;
+    }
+    DROP(pages_drop, &w->pages);
+    return NULL;
+}
+
+/* All slide the heap into `to`, page by page. The survey is there again then. */
+static void touch_together(compressor_survey *survey, const worker *like, uint64_t *to) {
+    worker workers[THREADS];
+    compressor_pages pages = COMPRESSOR_EMPTY;
+    const uint64_t size = 1 + below(100), count = (like->live + size - 1) / size;
+    uint64_t built = 0;
+    memset(workers, 0, sizeof workers);
+    DONE(count, pages_begin, survey, size, &pages);
+    for (int k = 0; k < THREADS; k++) {
+        workers[k].words = like->words;
+        workers[k].count = like->count;
+        workers[k].live = like->live;
+        workers[k].to = to;
+        workers[k].page_words = size;
+        workers[k].pages_count = count;
+        DONE(0, pages_share, &pages, &workers[k].pages);
+    }
+    run_threads(workers, touch);
+    for (int k = 0; k < THREADS; k++) built += workers[k].builds;
+    SAME(built, count);
+    DONE(0, pages_end, &pages, survey);
+}
+
+/* The heap at rest, whose words go: all mark it, and all slide it, by parts and by pages. */
 void rest_by_threads(graph *g, uint64_t *words, uint64_t count) {
     worker workers[THREADS];
     compressor_survey survey = COMPRESSOR_EMPTY;
-    uint64_t *roots = root_words(g, FROM), *wanted, *wanted_roots, *to, live;
+    uint64_t *roots = root_words(g, FROM), *wanted, *wanted_roots, *to, *touched, live;
     memset(workers, 0, sizeof workers);
     graph_trace(g, 0);
     live = live_words(g);
@@ -108,12 +158,16 @@ void rest_by_threads(graph *g, uint64_t *words, uint64_t count) {
     }
     DONE(0, survey_forward, &survey, roots, g->root_count);
     run_threads(workers, slide);
+    touched = (uint64_t *)zeros(live, sizeof *touched);
+    touch_together(&survey, &workers[0], touched);
     DROP(survey_drop, &survey);
     SAME_WORDS(to, wanted, live);
+    SAME_WORDS(touched, wanted, live);
     SAME_WORDS(roots, wanted_roots, g->root_count);
     free(words);
     free(roots);
     free(wanted);
     free(wanted_roots);
     free(to);
+    free(touched);
 }

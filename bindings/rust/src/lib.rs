@@ -77,8 +77,8 @@
 //!
 //! # Handles
 //!
-//! [`Heap`], [`Plan`], [`Crew`], [`Mutator`], [`End`], [`rest::Survey`], [`rest::Tables`] and [`rest::Job`] own what
-//! the library keeps, and their drop frees it. They go from thread to thread, and are not shared or cloned: where
+//! [`Heap`], [`Plan`], [`Crew`], [`Mutator`], [`End`], [`rest::Survey`], [`rest::Tables`], [`rest::Job`] and
+//! [`rest::Pages`] own what the library keeps, and their drop frees it. They go from thread to thread, and are not shared or cloned: where
 //! threads use one thing at the same time, each has a share of its own. A method takes `&mut self`, a read too, since
 //! a handle is used by one call at a time. What a call uses up it takes by value; if it is refused, that comes back
 //! ([`Refused`]).
@@ -98,8 +98,9 @@
 //! # To build
 //!
 //! The library is installed before (`tools/install PREFIX`). The build finds it below `COMPRESSOR_DIR`, if that is
-//! set to such a PREFIX, or else by pkg-config, and links the static archive, if it is there. It runs on Linux for
-//! x86-64.
+//! set to such a PREFIX, or else by pkg-config, and links the static archive, if it is there; with the feature
+//! `shared` the shared library. The build of a crate that depends on this one finds the folders of the headers and of
+//! the library in `DEP_COMPRESSOR_INCLUDE` and `DEP_COMPRESSOR_LIBDIR`. It runs on Linux for x86-64.
 
 #![no_std]
 

@@ -197,6 +197,28 @@ refusals! {
     164 MOVED_WRONG_ROOT MovedWrongRoot { number };
     /// This word of this marked object is another one than it has to be.
     165 MOVED_WRONG_WORD MovedWrongWord { object, word };
+    /// The word at this index is the first one of an object, and not live; or it is live, and neither the first word of
+    /// an object nor behind a live one.
+    192 NOT_A_RUN NotARun { index };
+    /// A page of a slide has no words.
+    193 NO_SIZE NoSize;
+    /// The page was published.
+    194 PAGE_HOME PageHome { page };
+    /// Another handle has the turn for the page, or had it a moment ago: call again.
+    195 PAGE_BUSY PageBusy { page };
+    /// This handle has the turn for this page already.
+    196 TURN_TAKEN TurnTaken { page };
+    /// The page is not published yet.
+    197 NOT_HOME NotHome { page };
+    /// The handle has no turn. No call here is made by such a one.
+    198 NO_TURN NoTurn;
+    /// The page has so many words, and the memory has another number.
+    199 OTHER_LENGTH OtherLength { words };
+    /// There are more rows than objects wait; the index is 0. [`Looks::again`](crate::rest::Looks::again) takes it as
+    /// done.
+    210 NO_SUCH_OBJECT NoSuchObject { index };
+    /// The object at this index waits to be looked at.
+    211 STILL_WAITING StillWaiting { index };
     /// A handle of another kind. None is here.
     255 WRONG_HANDLE WrongHandle;
 }

@@ -3,7 +3,7 @@
 //!
 //! A [`Space`] has the words. [`Space::collect`] and its kin are whole collections. In steps a [`Survey`] says which
 //! objects are live, and threads slide parts by shares of it; a [`Job`] is its marking by several threads; [`Tables`]
-//! are room for one, made before it.
+//! are room for one, made before it. By [`Pages`] threads go on while the heap slides, by [`Looks`] while it is marked.
 //!
 //! What the runtime keeps:
 //!
@@ -22,6 +22,8 @@
 mod buffer;
 mod collections;
 mod job;
+mod looks;
+mod pages;
 mod space;
 mod survey;
 mod tables;
@@ -29,6 +31,8 @@ mod turning;
 
 pub use buffer::{Buffer, CHUNK};
 pub use job::{Help, Job};
+pub use looks::Looks;
+pub use pages::{BuiltPage, Page, Pages};
 pub use space::Space;
 pub use survey::Survey;
 pub use tables::Tables;

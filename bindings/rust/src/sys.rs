@@ -24,7 +24,7 @@ macro_rules! handles {
     };
 }
 
-handles! { Heap Plan Crew Mutator End Survey Tables Job }
+handles! { Heap Plan Crew Mutator End Survey Tables Job Looks Pages }
 
 /// What each call answers: `status` 0 and the value, or the numbers of a refusal.
 #[repr(C)]
@@ -78,6 +78,13 @@ unsafe extern "C" {
     pub fn compressor_survey_by_marks(
         edition: u32, words: *const u64, word_count: usize, roots: *const u64, root_count: usize,
         marks: *const u64, block_count: usize, survey: &mut Survey) -> Answer;
+    pub fn compressor_survey_by_bits(
+        edition: u32, word_count: u64, roots: *const u64, root_count: usize, heads: *const u64,
+        head_count: usize, live: *const u64, live_count: usize, survey: &mut Survey) -> Answer;
+    pub fn compressor_survey_guarded(
+        edition: u32, words: *const u64, word_count: usize, roots: *const u64, root_count: usize,
+        ephemerons: *const u64, ephemeron_words: usize, guarded: *mut u64, guarded_count: usize,
+        survey: &mut Survey, lost: *mut u64) -> Answer;
     pub safe fn compressor_survey_facts_of(survey: &mut Survey, facts: &mut SurveyFacts) -> Answer;
     pub safe fn compressor_survey_share(survey: &mut Survey, other: &mut Survey) -> Answer;
     pub fn compressor_survey_slide(
@@ -109,6 +116,31 @@ unsafe extern "C" {
     pub safe fn compressor_job_help(job: &mut Job, who: u64) -> Answer;
     pub safe fn compressor_job_finish(job: &mut Job, survey: &mut Survey) -> Answer;
     pub safe fn compressor_job_drop(job: &mut Job);
+
+    pub fn compressor_looks_begin(
+        edition: u32, word_count: u64, roots: *const u64, root_count: usize,
+        looks: &mut Looks) -> Answer;
+    pub fn compressor_looks_waiting(looks: &mut Looks, indices: *mut u64, most: usize) -> Answer;
+    pub fn compressor_looks_look(
+        looks: &mut Looks, rows: *const u64, row_words: usize) -> Answer;
+    pub fn compressor_looks_again(
+        looks: &mut Looks, index: u64, row: *const u64, row_words: usize) -> Answer;
+    pub fn compressor_looks_meet(
+        looks: &mut Looks, values: *const u64, value_count: usize) -> Answer;
+    pub fn compressor_looks_finish(
+        looks: &mut Looks, roots: *const u64, root_count: usize, survey: &mut Survey) -> Answer;
+    pub safe fn compressor_looks_drop(looks: &mut Looks);
+
+    pub safe fn compressor_pages_begin(
+        survey: &mut Survey, page_words: u64, pages: &mut Pages) -> Answer;
+    pub safe fn compressor_pages_share(pages: &mut Pages, other: &mut Pages) -> Answer;
+    pub safe fn compressor_pages_claim(pages: &mut Pages, page: u64) -> Answer;
+    pub fn compressor_pages_build(
+        pages: &mut Pages, words: *const u64, word_count: usize, page: *mut u64,
+        page_count: usize) -> Answer;
+    pub safe fn compressor_pages_publish(pages: &mut Pages) -> Answer;
+    pub safe fn compressor_pages_end(pages: &mut Pages, survey: &mut Survey) -> Answer;
+    pub safe fn compressor_pages_drop(pages: &mut Pages);
 
     pub fn compressor_heap_by_marks(
         edition: u32, words: *const u64, word_count: usize, marks: *const u32, mark_count: usize,

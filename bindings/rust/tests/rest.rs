@@ -4,7 +4,7 @@ use std::array;
 use std::sync::{Mutex, RwLock};
 use std::thread;
 
-use compressor::rest::{Buffer, Help, Job, Space, Survey, Tables, CHUNK};
+use compressor::rest::{Buffer, Help, Job, Looks, Pages, Space, Survey, Tables, CHUNK};
 use compressor::{Edition, Refusal, Shape, Value};
 
 const THREADS: usize = 4;
@@ -132,6 +132,16 @@ fn a_weak_word_goes_with_its_object() {
 }
 
 #[test]
+fn no_object_that_ends_past_the_used_words_is_around_one() {
+    let mut space = Space::new(Edition::Four, vec![0; 100].into(), 3);
+    space.words()[0] = Shape { refs: 3, weak: 0, data: 0, tag: 1 }.header(Edition::Four).unwrap();
+    assert_eq!(space.object_around(0), None);
+    assert_eq!(space.object_around(50), None);
+    space.words()[0] = Shape { refs: 2, weak: 0, data: 0, tag: 1 }.header(Edition::Four).unwrap();
+    assert_eq!(space.object_around(2), Some(Value::at(0)));
+}
+
+#[test]
 fn large_objects_have_the_shapes_that_headers_say() {
     const MANY: u32 = 70_000;
     let shapes = [
@@ -222,6 +232,52 @@ fn four_threads_slide_what_was_surveyed() {
 }
 
 #[test]
+fn four_threads_touch_pages() {
+    const PAGE: u64 = 512;
+    let (mut space, mut to) = (space(), space());
+    let mut roots = make_lists(&space);
+    let mut survey = Survey::by_roots(Edition::Four, space.words(), &roots).unwrap();
+    survey.forward(&mut roots).unwrap();
+    let live = survey.live_words();
+    let refused = Pages::begin(survey, 0).unwrap_err();
+    assert_eq!(refused.refusal, Refusal::NoSize);
+    let (pages, count) = Pages::begin(refused.back, PAGE).unwrap();
+    assert_eq!(count, live.div_ceil(PAGE));
+    let refused = pages.end().unwrap_err();
+    assert_eq!(refused.refusal, Refusal::NotHome { page: 0 });
+    let mut pages = refused.back;
+    assert_eq!(pages.claim(count).unwrap_err(), Refusal::NoSuchPage { page: count });
+    let refused = pages.claim(0).unwrap().build(space.words(), &mut []);
+    assert_eq!(refused.unwrap_err(), Refusal::OtherLength { words: PAGE });
+
+    let words = &*space.words();
+    let memory: Vec<Mutex<&mut [u64]>> =
+        to.memory()[..live as usize].chunks_mut(PAGE as usize).map(Mutex::new).collect();
+    thread::scope(|scope| {
+        for first in (0..THREADS as u64).map(|it| 5 * it) {
+            let (mut own, memory) = (pages.share().unwrap(), &memory);
+            scope.spawn(move || {
+                for page in (0..count).map(|it| (it + first) % count) {
+                    match own.claim(page) {
+                        Ok(turn) => {
+                            let mut part = memory[page as usize].lock().unwrap();
+                            turn.build(words, &mut part).unwrap().publish();
+                        }
+                        Err(Refusal::PageHome { .. } | Refusal::PageBusy { .. }) => {}
+                        Err(refusal) => panic!("{refusal}"),
+                    }
+                }
+            });
+        }
+    });
+    assert_eq!(pages.claim(1).unwrap_err(), Refusal::PageHome { page: 1 });
+    drop(memory);
+    assert!(pages.end().unwrap().into_tables().unwrap().is_none());
+    space.exchange(&mut to, live);
+    check_lists(&space, &roots);
+}
+
+#[test]
 fn words_that_changed_are_seen() {
     let mut space = space();
     let mut buffer = Buffer::default();
@@ -263,6 +319,107 @@ fn marks_of_the_runtime_are_taken() {
     slide_by_threads(&mut survey, &mut space, &mut to, &mut roots[..2]);
     assert_eq!(space.used(), 3 * PAIRS / 4);
     check_lists(&space, &roots[..2]);
+}
+
+#[test]
+fn bits_of_the_runtime_are_taken_and_the_slide_asks() {
+    let mut space = space();
+    let mut buffer = Buffer::default();
+    let last = pair(&space, &mut buffer, Value::NULL, Value::NULL);
+    let first = pair(&space, &mut buffer, Value::NULL, last);
+    let words = space.words()[..6].to_vec();
+    let survey =
+        |heads: u64, live: u64| Survey::by_bits(Edition::Four, 6, &[first], &[heads], &[live]);
+    assert_eq!(survey(0b1001, 0b11_1110).unwrap_err(), Refusal::NotARun { index: 0 });
+    assert_eq!(survey(0b100_1001, 0b111_1111).unwrap_err(), Refusal::ObjectPastEnd { index: 6 });
+    assert_eq!(survey(0b1, 0b111).unwrap_err(), Refusal::BadRoot { number: 0 });
+    let early = Survey::by_bits(Edition::Two, 6, &[first], &[0b1001], &[0b11_1111]);
+    assert_eq!(early.unwrap_err(), Refusal::BadEdition { edition: 2 });
+    let mut part = [0; 6];
+    let slid = survey(0b1000, 0b11_1000).unwrap().slide(&words, 0, &mut part[..3]);
+    assert_eq!(slid, Err(Refusal::Unmarked { index: 5 }));
+    let slid = survey(0b1001, 0b11_1011).unwrap().slide(&words, 0, &mut part[..5]);
+    assert_eq!(slid, Err(Refusal::Changed { index: 0 }));
+    let slid = survey(0b1001, 0b11_1111).unwrap().slide(&words, 0, &mut part);
+    assert_eq!(slid, Ok(()));
+    assert_eq!(part[..], words);
+}
+
+/// Looks at what waits until none does.
+fn look_at_all(space: &Space, mut looks: Looks) -> Result<Looks, Refusal> {
+    let mut indices = [0; 2];
+    loop {
+        let (mut rows, waiting) = (Vec::new(), looks.waiting(&mut indices));
+        for &index in waiting {
+            space.append_row(Value::at(index), &mut rows);
+        }
+        if rows.is_empty() {
+            return Ok(looks);
+        }
+        looks = looks.look(&rows)?;
+    }
+}
+
+#[test]
+fn what_is_written_to_is_looked_at_again() {
+    let mut space = space();
+    let mut buffer = Buffer::default();
+    let last = pair(&space, &mut buffer, number(1), Value::NULL);
+    let first = pair(&space, &mut buffer, last, Value::NULL);
+    let room = space.room();
+    let marked = |space: &Space| look_at_all(space, Looks::begin(Edition::Four, room, &[first])?);
+    let (forgetful, looks) = (marked(&space).unwrap(), marked(&space).unwrap());
+    let made = pair(&space, &mut buffer, number(2), last);
+    space.store_release(first, 1, made);
+    let mut row = Vec::new();
+    space.append_row(first, &mut row);
+    assert_eq!(row[1..], [last.word(), made.word()]);
+    let looks = looks.again(6, &row).unwrap(); // nothing was met there, as yet
+    let looks = looks.again(3, &row).unwrap();
+    let refused = looks.finish(&[first]).unwrap_err();
+    assert_eq!(refused.refusal, Refusal::StillWaiting { index: 6 });
+    let looks = look_at_all(&space, refused.back.unwrap()).unwrap();
+    let mut survey = looks.meet(&[made]).unwrap().finish(&[made, first]).unwrap();
+    let mut part = [0; 9];
+    assert_eq!((survey.live_words(), survey.slide(space.memory(), 0, &mut part)), (9, Ok(())));
+    assert_eq!(part[..], space.words()[..9]);
+    let mut survey = forgetful.finish(&[first]).unwrap();
+    assert_eq!(survey.live_words(), 6);
+    let slid = survey.slide(space.memory(), 0, &mut part[..6]);
+    assert_eq!(slid, Err(Refusal::Unmarked { index: 5 }));
+}
+
+#[test]
+fn looks_are_refused() {
+    let begin = |edition, roots: &[Value]| Looks::begin(edition, 3, roots);
+    let early = begin(Edition::Two, &[]).unwrap_err();
+    assert_eq!(early, Refusal::BadEdition { edition: 2 });
+    let astray = begin(Edition::Four, &[Value::at(3)]).unwrap_err();
+    assert_eq!(astray, Refusal::BadRoot { number: 0 });
+    let looks = || begin(Edition::Four, &[Value::at(0)]).unwrap();
+    let row = [header(2, 0), 0, Value::at(3).word()];
+    assert_eq!(looks().look(&row[..2]).unwrap_err(), Refusal::TooShort { length: 3, which: 0 });
+    assert_eq!(looks().look(&row).unwrap_err(), Refusal::BadReference { index: 2 });
+    assert_eq!(looks().look(&[0, 0]).unwrap_err(), Refusal::NoSuchObject { index: 0 });
+    assert_eq!(looks().meet(&[Value::at(3)]).unwrap_err(), Refusal::BadRoot { number: 0 });
+    let refused = begin(Edition::Four, &[]).unwrap().finish(&[Value::at(0)]).unwrap_err();
+    assert_eq!(refused.refusal, Refusal::BadRoot { number: 0 });
+    assert!(refused.back.is_none());
+}
+
+#[test]
+fn what_is_lost_is_told_and_lives() {
+    let pair = header(2, 0);
+    // A pair that is a root; one that is guarded; the value of an ephemeron whose key is the guarded one; a dead one.
+    let words = [pair, 0, 0, pair, 0, 0, pair, 0, 0, pair, 0, 0];
+    let at = Value::at;
+    let mut guarded = [at(0), at(3)];
+    let of = [[at(0), at(3), at(6)]];
+    let found = Survey::guarded(Edition::Four, &words, &[at(0)], &of, &mut guarded);
+    let (mut survey, lost) = found.unwrap();
+    assert_eq!((survey.live_words(), lost, guarded), (9, 1, [at(3), at(0)]));
+    let found = Survey::guarded(Edition::Four, &words, &[at(0)], &of, &mut [at(0), at(12)]);
+    assert_eq!(found.unwrap_err(), Refusal::BadRoot { number: 5 });
 }
 
 #[test]

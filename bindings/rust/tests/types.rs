@@ -1,6 +1,6 @@
 //! What types promise; that a handle is not shared or cloned doc tests in src/handle.rs say.
 
-use compressor::rest::{Buffer, Job, Space, Survey, Tables};
+use compressor::rest::{Buffer, Job, Looks, Pages, Space, Survey, Tables};
 use compressor::{
     Address, Crew, Edition, End, Heap, Mutator, Plan, Refusal, Refused, Shape, Value,
 };
@@ -18,6 +18,8 @@ fn handles_go_to_other_threads() {
     is_sent::<Survey>();
     is_sent::<Tables>();
     is_sent::<Job>();
+    is_sent::<Looks>();
+    is_sent::<Pages>();
     is_sent::<Refused<Crew>>();
     is_sent::<Buffer>();
     is_shared::<Space>();

@@ -1,4 +1,5 @@
 use alloc::boxed::Box;
+use alloc::vec::Vec;
 use core::fmt;
 use core::marker::PhantomData;
 use core::mem::swap;
@@ -312,12 +313,33 @@ impl<'m> Space<'m> {
         Shape::of(self.edition, header.load(Ordering::Relaxed))
     }
 
+    /// Appends an object's row, for [`Looks`](super::Looks): its header, references and weak words, each as it is at
+    /// some time of the call. Of an object that ends past the room, the header alone: the look is refused.
+    ///
+    /// # Panics
+    /// If the object is not in the memory.
+    pub fn append_row(&self, object: Value, rows: &mut Vec<u64>) {
+        let index = object.word().wrapping_sub(self.base);
+        let behind = self.cells().get(index as usize..).unwrap_or_default();
+        let (header, behind) = behind.split_first().expect("an object in this space");
+        let header = header.load(Ordering::Acquire);
+        let shape = Shape::of(self.edition, header);
+        let fits = shape.words() <= 1 + behind.len() as u64;
+        let fields = if fits { shape.refs as usize + shape.weak as usize } else { 0 };
+        rows.push(header);
+        rows.extend(behind[..fields].iter().map(|it| it.load(Ordering::Acquire)));
+    }
+
     /// For debugging: the object of the row from the first word on that has the word with this index, as a refusal
-    /// names it. Looks at one object after the other.
+    /// names it. `None` if there is none, or if an object before it has more words than are used from there on. Looks
+    /// at one object after the other.
     pub fn object_around(&self, index: u64) -> Option<Value> {
-        let mut at = 0;
-        while at < self.used() {
+        let (mut at, used) = (0, self.used());
+        while at < used {
             let words = self.shape(self.object_at(at)).words();
+            if words > used - at {
+                return None;
+            }
             if index.wrapping_sub(at) < words {
                 return Some(self.object_at(at));
             }

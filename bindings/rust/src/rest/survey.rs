@@ -84,6 +84,73 @@ impl Survey {
         Ok(made?.0)
     }
 
+    /// The same by bits of the caller's own, with no look at the words: `heads` has those of the first words of the
+    /// marked objects, `live` those of all their words, each in `words.div_ceil(64)` blocks. A slide asks of each object
+    /// what a survey asks. So slide all parts before a root is forwarded: if one is refused, `Changed` or `Unmarked`,
+    /// survey by the roots. If none is, nothing that the roots reach is lost, whoever marked.
+    ///
+    /// # Errors
+    /// `BadEdition` for editions one and two; `TooLarge`; `WrongLength`; `OutOfMemory`, or a fault that is there:
+    /// `NotARun`, `ObjectPastEnd`, or `BadRoot`, one that leads to no marked object.
+    pub fn by_bits(
+        edition: Edition,
+        words: u64,
+        roots: &[Value],
+        heads: &[u64],
+        live: &[u64],
+    ) -> Result<Survey, Refusal> {
+        // SAFETY: the arrays are slices.
+        let made = Survey::made(|survey| unsafe {
+            sys::compressor_survey_by_bits(
+                edition as u32,
+                words,
+                roots.as_ptr().cast(),
+                roots.len(),
+                heads.as_ptr(),
+                heads.len(),
+                live.as_ptr(),
+                live.len(),
+                survey,
+            )
+        });
+        Ok(made?.0)
+    }
+
+    /// What roots, ephemerons and guarded words hold. An ephemeron is a holder, a key and a value: the value is held as
+    /// soon as the other two are. Of the guarded words those come first then that lead to objects which nothing else
+    /// holds: the lost ones, whose number comes with the survey. They are held all the same, so that a guardian sees
+    /// them once more. Both parts keep their order.
+    ///
+    /// # Errors
+    /// As of `by_roots`. `BadRoot` has the number of a word among the roots, the ephemerons (their values alone) and the
+    /// guarded words, counted one behind the other. The guarded words are then as they were.
+    pub fn guarded(
+        edition: Edition,
+        words: &[u64],
+        roots: &[Value],
+        ephemerons: &[[Value; 3]],
+        guarded: &mut [Value],
+    ) -> Result<(Survey, usize), Refusal> {
+        let mut lost = 0;
+        // SAFETY: the arrays are slices, and `lost` is a word of this call.
+        let made = Survey::made(|survey| unsafe {
+            sys::compressor_survey_guarded(
+                edition as u32,
+                words.as_ptr(),
+                words.len(),
+                roots.as_ptr().cast(),
+                roots.len(),
+                ephemerons.as_ptr().cast(),
+                3 * ephemerons.len(),
+                guarded.as_mut_ptr().cast(),
+                guarded.len(),
+                survey,
+                &raw mut lost,
+            )
+        });
+        Ok((made?.0, lost as usize))
+    }
+
     /// The words of the live objects: those that slide, from the first word of the new memory on.
     pub fn live_words(&mut self) -> u64 {
         let mut facts = sys::SurveyFacts::default();

@@ -7,7 +7,7 @@ handle! {
 }
 
 impl Tables {
-    /// Tables with room for a survey of so many words: two bits a word, 4 bytes for each 64 words, and 4 a word, of
+    /// Tables with room for a survey of so many words: two bits a word, 8 bytes for each 64 words, and 4 a word, of
     /// which a survey touches those of the objects that it reaches.
     ///
     /// # Errors
