@@ -13,12 +13,13 @@ static inline uint64_t done(compressor_answer answer) {
     return answer.value;
 }
 
-static inline void lent_start(size_t room) {
+static inline void lent_in(uint64_t *words, size_t room) {
     done(compressor_tables_reserve(room, &tables));
     all_roots = zeroed_words(MOST_THREADS * (size_t)MOST_ROOTS);
     space.room = room;
-    space_moved(zeroed_words(room), 0);
+    space_moved(words, 0);
 }
+static inline void lent_start(size_t room) { lent_in(zeroed_words(room), room); }
 
 /* The roots of all mutators go into the array, and back. */
 static inline size_t roots_gather(void) {

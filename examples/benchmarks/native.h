@@ -9,6 +9,13 @@ enum { BY_HAND = 0, EDITION = 4 };
 
 static compressor_space space;
 
+/* A back end may have its own, defined before: of a word, and of what a mutator does before it takes more room. */
+#ifndef LOAD
+#define LOAD(object, k) compressor_load(&space, object, k)
+#define STORE(object, k, value) compressor_store(&space, object, k, value)
+#define BEFORE_CHUNK(m) ((void)0)
+#endif
+
 /* By the back end: makes the space, of this budget. */
 static inline void collector_start(size_t budget_words);
 
@@ -39,25 +46,26 @@ static inline ref heap_new(mutator *m, size_t refs, size_t data) {
     const uint64_t words = compressor_shape_words(shape);
     uint64_t header = 0;
     if (!compressor_shape_header(EDITION, shape, &header)) die("an object too large");
+    if (__builtin_expect(m->buffer.end - m->buffer.at < words, 0)) BEFORE_CHUNK(m);
     const ref made = compressor_new(&space, &m->buffer, header, words);
     return __builtin_expect(made != 0, 1) ? made : new_after_collection(m, header, words);
 }
 
 static inline ref heap_ref(mutator *m, ref object, size_t k) {
     (void)m;
-    return compressor_load(&space, object, k);
+    return LOAD(object, k);
 }
 static inline void heap_set_ref(mutator *m, const ref *object, size_t k, const ref *value) {
     (void)m;
-    compressor_store(&space, *object, k, *value);
+    STORE(*object, k, *value);
 }
 static inline uint64_t heap_word(mutator *m, ref object, size_t refs, size_t k) {
     (void)m;
-    return compressor_load(&space, object, refs + k);
+    return LOAD(object, refs + k);
 }
 static inline void heap_set_word(mutator *m, const ref *object, size_t refs, size_t k, uint64_t word) {
     (void)m;
-    compressor_store(&space, *object, refs + k, word);
+    STORE(*object, refs + k, word);
 }
 static inline void heap_free(mutator *m, ref object) { (void)m, (void)object; }
 

@@ -5,7 +5,7 @@ import math
 from xml.sax.saxutils import escape
 
 GROUPS = (  # what the legend says, the colour, the back ends
-    ("Meldhawthorn at rest", "#1b6ca8", ("rest", "rest-copy", "rest-4", "rest-job")),
+    ("Meldhawthorn at rest", "#1b6ca8", ("rest", "rest-copy", "rest-4", "rest-job", "touch-inline", "touch-trap")),
     ("Meldhawthorn flipped", "#8e44ad", ("flipped",)),
     ("Boehm's libgc", "#d1495b", ("boehm",)),
     ("plain collectors", "#2a9d58", ("mark-slide", "copying")),

@@ -1,5 +1,7 @@
-/* collect.c: a collection, while all threads stand still. If there was a marking, the survey is by its marks. If that
-   is refused, as where a reference or a root leads to an object that is not marked, the survey is by the roots. */
+/* collect.c: a collection, while all threads stand still. If there was a marking, the survey is by its bits, and looks
+   at no word of the heap: the slide asks of each object what a survey asks, and no root is changed before all parts
+   have slid. If survey or slide is refused, as where a root or a reference leads to an object that is not marked, the
+   collection goes on by the roots. By marks the survey itself asks. */
 #include "stops.h"
 
 static uint32_t part_count;
@@ -25,13 +27,13 @@ static void time_part(int part, uint64_t *began) {
     *began = at;
 }
 
-/* All roots in a row: those of the threads, and then the shared ones. Answers how many. */
-static size_t gather(void) {
+/* All roots in a row: those of the threads, and then the shared ones. */
+static void gather(void) {
     size_t count = 0;
     for (uint32_t k = 0; k < heap.chosen.threads; k++)
         for (const ref *at = heap.mutators[k].stack; at < heap.mutators[k].top; at++) heap.roots[count++] = *at;
     for (int k = 0; k < SHARED_ROOTS; k++) heap.roots[count++] = heap_shared[k];
-    return count;
+    heap.root_count = count;
 }
 
 static void scatter(void) {
@@ -41,23 +43,29 @@ static void scatter(void) {
     for (int k = 0; k < SHARED_ROOTS; k++) heap_shared[k] = heap.roots[count++];
 }
 
-static void give_marks(uint64_t *marks) {
+/* All objects get other addresses: to_rest those that the library wants. All that was kept has been looked at. */
+static void turn(int to_rest) {
+    gather();
+    const compressor_answer a = compressor_space_turn(&heap_space, to_rest, heap.roots, heap.root_count);
+    if (a.status != COMPRESSOR_DONE) broken("turn", a);
+    scatter();
+}
+
+static void threads_mark(int is_marking) {
     for (uint32_t k = 0; k < heap.chosen.threads; k++)
-        if (heap.mutators[k].is_running) heap.mutators[k].kept.barrier.marks = marks;
+        if (heap.mutators[k].is_running) work_marks(&heap.mutators[k].kept, is_marking);
+    heap.is_marking = is_marking;
 }
 
 void collect_mark(void) {
-    const size_t count = gather();
-    for (size_t k = 0; k < count; k++) compressor_keep(&heap.kept.barrier, heap.roots[k]);
-    work_hand_on(&heap.kept);
-    give_marks(marking_marks());
-    heap.is_marking = 1;
+    gather();
+    marking_begin(&heap.kept, heap.roots, heap.root_count, heap.stops + 1); /* so many stops there are then */
+    threads_mark(1);
     heap.used_at_start = heap_space.used;
     heap_space.limit = heap.chosen.words;
-    marking_begin(heap.stops + 1); /* so many stops there are then */
 }
 
-/* Ends the marking: whether its marks are good. What was not handed on is dropped: the objects move now. */
+/* Ends the marking: whether its bits are good. What was not handed on is dropped: the objects move now. */
 static int end_marking(void) {
     int is_good;
     if (!heap.is_marking) return 0;
@@ -67,14 +75,15 @@ static int end_marking(void) {
         if (heap.mutators[k].is_running) work_hand_on(&heap.mutators[k].kept);
     is_good = marking_finish(&heap.kept);
     for (uint32_t k = 0; k < heap.chosen.threads; k++) work_drop(&heap.mutators[k].kept);
-    give_marks(NULL);
-    heap.is_marking = 0;
+    threads_mark(0);
     heap.gave_up += !is_good;
     return is_good;
 }
 
-/* Says of the first refusal what it is of. */
+/* Counts a refusal, and says of the first one what it is of. */
 static void tell_refusal(compressor_answer a) {
+    heap.refusals[a.status % STATUSES]++;
+    if (*heap.refusal != 0) return;
     const ref object = a.status == COMPRESSOR_BAD_ROOT ? 0 : compressor_object_around(&heap_space, a.value);
     char where[64] = "";
     if (object != 0)
@@ -85,28 +94,31 @@ static void tell_refusal(compressor_answer a) {
              (unsigned long long)a.value, where);
 }
 
-/* Whether the survey by marks is made. If the marks are refused, that is counted. */
-static int is_surveyed_by_marks(size_t roots) {
+static compressor_answer survey_by_marking(void) {
     const size_t blocks = (heap_space.used + 63) / 64;
+    if (heap.chosen.is_by_marks)
+        return compressor_survey_by_marks(EDITION, heap_space.words, heap_space.used, heap.roots, heap.root_count,
+                                          marking_marks(), blocks, &heap.survey);
+    return compressor_survey_by_bits(EDITION, heap_space.used, heap.roots, heap.root_count, marking_marks(), blocks,
+                                     marking_live(), blocks, &heap.survey);
+}
+
+/* Whether the survey by the marking is made. If it is refused, that is counted. */
+static int is_surveyed_by_marking(void) {
     compressor_answer a;
-    TWICE(a, compressor_survey_by_marks(EDITION, heap_space.words, heap_space.used, heap.roots, roots,
-                                        marking_marks(), blocks, &heap.survey));
-    if (a.status == COMPRESSOR_DONE) {
-        heap.live = a.value;
-        heap.by_marks++;
-        return 1;
-    }
-    if (a.status == COMPRESSOR_OUT_OF_MEMORY) return 0;
-    heap.refusals[a.status % STATUSES]++;
-    if (*heap.refusal == 0) tell_refusal(a);
-    return 0;
+    TWICE(a, survey_by_marking());
+    if (a.status != COMPRESSOR_DONE && a.status != COMPRESSOR_OUT_OF_MEMORY) tell_refusal(a);
+    if (a.status != COMPRESSOR_DONE) return 0;
+    heap.live = a.value;
+    heap.by_marking++;
+    return 1;
 }
 
 /* Whether the survey by roots is made: there may be no memory. */
-static int is_surveyed_by_roots(size_t roots) {
+static int is_surveyed_by_roots(void) {
     compressor_answer a;
     TWICE(a, compressor_survey_by_roots_lent(&heap.tables, EDITION, heap_space.words, heap_space.used, heap.roots,
-                                             roots, &heap.survey));
+                                             heap.root_count, &heap.survey));
     if (a.status == COMPRESSOR_OUT_OF_MEMORY) return 0;
     if (a.status != COMPRESSOR_DONE) broken("by roots", a);
     heap.live = a.value;
@@ -144,7 +156,7 @@ static uint64_t limit_of_start(void) {
     return all - (early < least ? least : early > most ? most : early);
 }
 
-/* The heap is in the other memory, and there are no marks. */
+/* The heap is in the other memory. */
 static void change_places(void) {
     uint64_t *const was = heap_space.words;
     const uint64_t all = heap.chosen.words;
@@ -153,56 +165,77 @@ static void change_places(void) {
     heap.slid += heap.live;
     heap_space.limit = heap.chosen.is_concurrent ? limit_of_start() : all;
     for (uint32_t k = 0; k < heap.chosen.threads; k++) compressor_buffer_empty(&heap.mutators[k].buffer);
+    if (heap.chosen.turns) turn(0);
     if (heap.live >= all - all / 16) heap_fail("HeapFull");
 }
 
 /* The whole collection by one call, which takes no memory. */
-static void collect_alone(size_t roots) {
+static void collect_alone(void) {
     const compressor_answer a =
-        compressor_collect_lent(&heap.tables, EDITION, heap_space.words, heap_space.used, heap.roots, roots,
-                                heap.other, heap.room);
+        compressor_collect_lent(&heap.tables, EDITION, heap_space.words, heap_space.used, heap.roots,
+                                heap.root_count, heap.other, heap.room);
     if (a.status != COMPRESSOR_DONE) broken("alone", a);
     heap.alone++;
     heap.live = a.value;
-    memset(marking_marks(), 0, (heap_space.used + 63) / 64 * sizeof *marking_marks());
     scatter();
     change_places();
 }
 
-int collect_survey(void) {
+/* Surveys, by the marking if it is good, and hands out shares: 1, or all is collected here. */
+static int survey(int is_marked) {
     uint64_t began = heap_thread_time();
-    const int is_marked = end_marking();
-    const size_t roots = gather();
-    int is_shared;
-    time_part(DRAIN, &began);
-    is_shared = (is_marked && is_surveyed_by_marks(roots)) || is_surveyed_by_roots(roots);
+    int is_shared = (is_marked && is_surveyed_by_marking()) || is_surveyed_by_roots();
     if (is_shared && !hand_out()) {
         drop_survey();
         is_shared = 0;
     }
     time_part(SURVEY, &began);
-    if (!is_shared) collect_alone(roots);
+    if (!is_shared) collect_alone();
     return is_shared;
 }
 
-/* The thread's part of the objects, its roots, and its part of the marks, which become 0. */
+int collect_survey(void) {
+    uint64_t began = heap_thread_time();
+    const int was_marking = heap.is_marking, is_marked = end_marking();
+    const uint64_t used = heap_space.used;
+    if (heap.chosen.turns) turn(1);
+    gather();
+    time_part(DRAIN, &began);
+    const int is_shared = survey(is_marked);
+    if (was_marking) marking_clear(used);
+    return is_shared;
+}
+
 void collect_slide(mutator *m) {
-    const uint64_t blocks = (heap_space.used + 63) / 64;
     size_t count;
     const uint64_t first = compressor_part(heap.live, part_count, m->part, &count);
-    compressor_answer a =
-        compressor_survey_slide(&m->share, heap_space.words, heap_space.used, first, heap.other + first, count);
-    if (a.status != COMPRESSOR_DONE) broken("slide", a);
-    a = compressor_survey_forward(&m->share, m->stack, (size_t)(m->top - m->stack));
-    if (a.status != COMPRESSOR_DONE) broken("forward", a);
-    const uint64_t block = compressor_part(blocks, part_count, m->part, &count);
-    memset(marking_marks() + block, 0, count * sizeof *marking_marks());
+    m->slid = compressor_survey_slide(&m->share, heap_space.words, heap_space.used, first, heap.other + first, count);
     compressor_survey_drop(&m->share);
 }
 
-void collect_moved(void) {
-    const compressor_answer a = compressor_survey_forward(&heap.survey, heap_shared, SHARED_ROOTS);
+/* Whether all parts have slid. By bits one may be refused, and that is counted. */
+static int all_slid(void) {
+    int all = 1;
+    for (uint32_t k = 0; k < heap.chosen.threads; k++) {
+        const compressor_answer a = heap.mutators[k].slid;
+        if (!heap.mutators[k].is_running || a.status == COMPRESSOR_DONE) continue;
+        if (heap.has_tables || heap.chosen.is_by_marks) broken("slide", a);
+        tell_refusal(a);
+        all = 0;
+    }
+    return all;
+}
+
+int collect_moved(void) {
+    if (!all_slid()) { /* words and roots are as they were */
+        drop_survey();
+        heap.by_marking--;
+        return survey(0);
+    }
+    const compressor_answer a = compressor_survey_forward(&heap.survey, heap.roots, heap.root_count);
     if (a.status != COMPRESSOR_DONE) broken("forward", a);
+    scatter();
     drop_survey();
     change_places();
+    return 0;
 }

@@ -20,8 +20,10 @@ typedef uint64_t ref;
 
 typedef struct options {
     int is_concurrent;
-    int has_no_barrier;        /* stores keep nothing: a fault that the survey finds */
+    int is_by_marks;           /* the survey is by marks, and not by bits */
+    int has_no_barrier;        /* stores keep nothing: a fault that the survey or the slide finds */
     int is_told;               /* statistics are printed */
+    int turns;                 /* each collection gives all objects new addresses, to find values that were kept */
     uint32_t threads, markers;
     uint64_t words;            /* of the heap: no more are used when a collection begins */
     uint64_t steps, depth;     /* of the program */
@@ -38,6 +40,7 @@ typedef struct mutator {
     int is_running;
     compressor_survey share;     /* from the survey to its part's end */
     uint64_t part;
+    compressor_answer slid;      /* of the part */
 } mutator;
 
 extern compressor_space heap_space;
@@ -68,8 +71,9 @@ static inline ref *heap_push(mutator *m, ref value) {
 
 static inline ref heap_new(mutator *m, uint64_t header) {
     const uint64_t words = compressor_shape_words(compressor_shape_of(EDITION, header));
-    const ref object = compressor_new_marked(&heap_space, &m->buffer, &m->kept.barrier, header, words);
+    const ref object = compressor_new(&heap_space, &m->buffer, header, words);
     if (__builtin_expect(object == 0, 0)) heap_fail("StepTooLarge");
+    work_new(&heap_space, &m->kept, object, words);
     return object;
 }
 /* Any field; a reference field; any field of an object that was made since the last safepoint. */
@@ -81,7 +85,7 @@ static inline void heap_set(ref object, uint64_t k, uint64_t value) { compressor
 /* A weak word. */
 static inline ref heap_load_weak(mutator *m, ref object, uint64_t k) {
     const ref value = heap_load(object, k);
-    compressor_keep(m->barrier, value);
+    compressor_keep_in(&heap_space, m->barrier, value);
     return value;
 }
 

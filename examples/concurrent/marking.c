@@ -8,14 +8,15 @@ enum { SHARED_FROM = 64 }; /* objects of a packet of which one half may go to a 
 
 static struct {
     const compressor_space *space;
-    uint64_t *marks;
+    uint64_t *marks, *live; /* live: null if nobody asks for it */
     uint32_t markers;
     pthread_t threads[MOST_MARKERS];
     work works[MOST_MARKERS];
     void (*is_done)(uint64_t);
     /* under the lock */
     packet *full, *empty; /* full: read without it too */
-    uint32_t busy;        /* threads that look at objects */
+    uint32_t busy;        /* threads that look at objects of others, or clear bits */
+    uint64_t used;        /* blocks of the bitmaps, until a marker clears them */
     uint32_t idle;        /* threads that wait; read without it too */
     uint64_t open;        /* the number of the marking whose end was not told; 0 if there is none */
     int gave_up;
@@ -115,10 +116,15 @@ static int is_shared(const work *w) {
            __atomic_load_n(&marking.full, __ATOMIC_RELAXED) == NULL && own_count(w) >= SHARED_FROM;
 }
 
-static void look_at(work *w, uint64_t object) {
-    const uint64_t refs = compressor_shape_at(marking.space, object).refs;
-    for (uint64_t k = 0; k < refs; k++)
-        compressor_keep(&w->barrier, compressor_load_acquire(marking.space, object, k));
+/* Answers how many words it has. */
+static uint64_t look_at(work *w, uint64_t object) {
+    const compressor_shape shape = compressor_shape_at(marking.space, object);
+    const uint64_t address = object - marking.space->base + COMPRESSOR_FROM_SPACE;
+    const uint64_t words = compressor_shape_words(shape);
+    if (marking.live != NULL) compressor_mark_live(marking.live, address, words);
+    for (uint64_t k = 0; k < shape.refs; k++)
+        compressor_keep_in(marking.space, &w->barrier, compressor_load_acquire(marking.space, object, k));
+    return words;
 }
 
 static void look_at_own(work *w) {
@@ -126,6 +132,31 @@ static void look_at_own(work *w) {
         if (is_shared(w)) share_own(w);
         look_at(w, *--w->barrier.next);
     }
+}
+
+/* Says that nothing waits any more, if so, and if it was not said. The lock is held before and after. */
+static void tell_end(void) {
+    const uint64_t number = marking.open;
+    if (number == 0 || marking.full != NULL || marking.busy != 0) return;
+    marking.open = 0;
+    pthread_mutex_unlock(&lock);
+    marking.is_done(number);
+    pthread_mutex_lock(&lock);
+}
+
+void work_step(work *w, uint64_t words) {
+    uint64_t looked = 0;
+    pthread_mutex_lock(&lock);
+    marking.busy++;
+    do {
+        pthread_mutex_unlock(&lock);
+        while (own_count(w) != 0 && looked < words) looked += look_at(w, *--w->barrier.next);
+        work_hand_on(w);
+        pthread_mutex_lock(&lock);
+    } while (looked < words && own_taken(w));
+    if (--marking.busy == 0) pthread_cond_broadcast(&changed);
+    tell_end();
+    pthread_mutex_unlock(&lock);
 }
 
 /* Looks at packets until none waits. The lock is held before and after. */
@@ -139,26 +170,48 @@ static void look_at_all(work *w) {
     if (--marking.busy == 0) pthread_cond_broadcast(&changed);
 }
 
+/* The lock is held before and after. */
+static void clear_bits(void) {
+    const uint64_t blocks = marking.used;
+    marking.used = 0;
+    marking.busy++;
+    pthread_mutex_unlock(&lock);
+    memset(marking.marks, 0, blocks * sizeof *marking.marks);
+    if (marking.live != NULL) memset(marking.live, 0, blocks * sizeof *marking.live);
+    pthread_mutex_lock(&lock);
+    if (--marking.busy == 0) pthread_cond_broadcast(&changed);
+}
+
+static int is_work(void) {
+    return marking.ending || marking.used != 0 || marking.full != NULL || (marking.open != 0 && marking.busy == 0);
+}
+
 static void *mark(void *it) {
     work *const w = (work *)it;
     pthread_mutex_lock(&lock);
     for (;;) {
-        while (marking.full == NULL && (marking.open == 0 || marking.busy != 0) && !marking.ending) wait_for_change();
+        while (!is_work()) wait_for_change();
         if (marking.ending) break;
-        look_at_all(w);
-        if (marking.busy == 0 && marking.open != 0) {
-            const uint64_t number = marking.open;
-            marking.open = 0;
-            pthread_mutex_unlock(&lock);
-            marking.is_done(number);
-            pthread_mutex_lock(&lock);
-        }
+        if (marking.used != 0) clear_bits();
+        else look_at_all(w);
+        tell_end();
     }
     pthread_mutex_unlock(&lock);
     return NULL;
 }
 
-void marking_begin(uint64_t number) {
+void marking_begin(work *w, const uint64_t *roots, size_t count, uint64_t number) {
+    pthread_mutex_lock(&lock);
+    if (marking.used != 0) clear_bits(); /* no marker came to it: one may wait for a lock of the caller's, in is_done */
+    while (marking.busy != 0) pthread_cond_wait(&changed, &lock);
+    pthread_mutex_unlock(&lock);
+    work_marks(w, 1);
+    for (size_t k = 0; k < count; k++) compressor_keep_in(marking.space, &w->barrier, roots[k]);
+    work_hand_on(w);
+    marking_again(number);
+}
+
+void marking_again(uint64_t number) {
     pthread_mutex_lock(&lock);
     marking.open = number;
     pthread_cond_broadcast(&changed);
@@ -179,7 +232,20 @@ int marking_finish(work *w) {
     return is_good;
 }
 
+void marking_clear(uint64_t words) {
+    pthread_mutex_lock(&lock);
+    marking.used = (words + 63) / 64;
+    pthread_cond_broadcast(&changed);
+    pthread_mutex_unlock(&lock);
+}
+
 uint64_t *marking_marks(void) { return marking.marks; }
+uint64_t *marking_live(void) { return marking.live; }
+
+void work_marks(work *w, int is_marking) {
+    w->barrier.marks = is_marking ? marking.marks : NULL;
+    w->live = is_marking ? marking.live : NULL;
+}
 
 int work_begin(work *w) {
     packet *p;
@@ -187,7 +253,7 @@ int work_begin(work *w) {
     p = packet_take();
     if (p != NULL) own_is(w, p, 0);
     pthread_mutex_unlock(&lock);
-    w->barrier.marks = NULL;
+    work_marks(w, 0);
     w->barrier.full = own_full;
     return p != NULL;
 }
@@ -200,18 +266,24 @@ void work_end(work *w) {
     pthread_mutex_unlock(&lock);
 }
 
-const char *marking_start(const compressor_space *space, size_t words, uint32_t markers, void (*is_done)(uint64_t)) {
+static uint64_t *no_bits(size_t words) {
     const size_t blocks = (words + 63) / 64;
+    uint64_t *const bits = (uint64_t *)calloc(blocks, sizeof *bits);
+    return bits != NULL ? bits : (uint64_t *)calloc(blocks, sizeof *bits);
+}
+
+const char *marking_start(const compressor_space *space, size_t words, int has_live, uint32_t markers,
+                          void (*is_done)(uint64_t)) {
     marking.space = space;
     marking.is_done = is_done;
-    marking.marks = (uint64_t *)calloc(blocks, sizeof *marking.marks);
-    if (marking.marks == NULL) marking.marks = (uint64_t *)calloc(blocks, sizeof *marking.marks);
-    if (marking.marks == NULL) return "OutOfMemory";
+    marking.marks = no_bits(words);
+    if (has_live) marking.live = no_bits(words);
+    if (marking.marks == NULL || (has_live && marking.live == NULL)) return "OutOfMemory";
     for (; marking.markers < markers; marking.markers++) {
         work *const w = &marking.works[marking.markers];
         pthread_t *const thread = &marking.threads[marking.markers];
         if (!work_begin(w)) return "OutOfMemory";
-        w->barrier.marks = marking.marks;
+        work_marks(w, 1);
         if (pthread_create(thread, NULL, mark, w) != 0 && pthread_create(thread, NULL, mark, w) != 0) {
             work_end(w);
             return "NoThread";
@@ -235,4 +307,5 @@ void marking_end(void) {
         free(p);
     }
     free(marking.marks);
+    free(marking.live);
 }

@@ -175,7 +175,7 @@ void make_symbol(evaluator *e, slot out, const char *name, size_t length) {
 }
 
 size_t symbol_name(evaluator *e, slot symbol, char name[MOST_NAME]) {
-    size_t length = (size_t)heap_word(e, symbol, SYMBOL_LENGTH), i;
+    size_t length = heap_word(e, symbol, SYMBOL_LENGTH), i;
     for (i = 0; i < length; i += 8) {
         uint64_t word = heap_word(e, symbol, (uint32_t)(SYMBOL_NAME + i / 8));
         memcpy(name + i, &word, length - i < 8 ? length - i : 8);
