@@ -47,3 +47,10 @@ pub mod TidyWords
 pub mod Starting
 pub mod Ended
 pub mod Guardians
+pub mod Laned
+pub mod LanedNext
+pub mod LanedRows
+mod Inverting
+mod AskedAll
+mod LaneSets
+mod LanesJoined

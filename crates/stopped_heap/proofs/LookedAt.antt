@@ -81,7 +81,7 @@ pub record IsStep (e : Edition) (count : ℕ) (run old new old_bits bits : List 
   pub weak : AllLead e count (take (weak_of (header_of e w)) (drop (1 + refs_of (header_of e w)) run))
 
 -- the header that was handed in
-same-head : (words run : List ℕ) (i : ℕ) → IsAt words i run → 0 < length run → get_or words i 0 ≡ get_or run 0 0
+pub same-head : (words run : List ℕ) (i : ℕ) → IsAt words i run → 0 < length run → get_or words i 0 ≡ get_or run 0 0
 same-head words run i is some = (let zero : i ≡ i + 0 = omega arith in ap (λ (n : ℕ). get_or words n 0) zero ∙ is 0 some)
 
 pub spread-of : (e : Edition) (words met : List ℕ) (looked : ℕ) (heads bits : List ℕ) → AreMet met heads → length heads ≡ length bits

@@ -84,7 +84,7 @@ module _ (heads bits : List ℕ) (b before : ℕ) (runs : AreRunsTo heads bits b
     ];
   }
 
-zero-bit : (bits : List ℕ) (b i : ℕ) → i / 64 ≡ b → bit_at (get_or bits b 0) (i % 64) ≡ 0 → bit bits i ≡ false
+pub zero-bit : (bits : List ℕ) (b i : ℕ) → i / 64 ≡ b → bit_at (get_or bits b 0) (i % 64) ≡ 0 → bit bits i ≡ false
 zero-bit bits b i here none = ap (λ (n : ℕ). bit_at (get_or bits n 0) (i % 64) == 1) here ∙ ap (λ (n : ℕ). n == 1) none
 
 -- the bits of the words with a live word before them

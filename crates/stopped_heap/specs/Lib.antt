@@ -20,3 +20,6 @@ pub mod LookFaults
 pub mod Tidied
 pub mod Starts
 pub mod Guarded
+pub mod Checks
+pub mod Lanes
+pub mod LaneParts

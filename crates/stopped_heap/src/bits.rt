@@ -1,7 +1,10 @@
 //! Bit sets, as those of heap_layout: bit `i` is bit `i % 64` of block `i / 64`.
-ghost use Rattle.std.specs.Prelude.{◌≡◌, ℕ, ◌+◌, ◌-◌, ◌*◌, ◌%◌, ◌^◌, ◌<◌, ◌≤◌, true, false, length};
+ghost use Rattle.std.specs.Prelude.{◌≡◌, ℕ, ◌+◌, ◌-◌, ◌*◌, ◌%◌, ◌^◌, ◌<◌, ◌≤◌, true, false, length, IfOk, IfSome, IfNone};
 ghost use Rattle.std.specs.Int.{bit_at};
 ghost use Rattle.heap_layout.specs.Bits.{bit};
+ghost use Rattle.stopped_heap.specs.Checks.{AreOthers};
+
+use std::alloc::{AllocError, Global};
 
 // A block with the bits from `from` up to `to` set, and no others.
 fn mask(from: usize, to: usize) -> u64
@@ -60,4 +63,32 @@ pub(crate) fn take_run(bits: &mut [u64], start: usize, size: usize) -> bool
         next = stop;
     }
     true
+}
+
+/// The bits that are not set in these.
+pub(crate) fn inverted(alloc: Global, bits: &[u64]) -> Result<Vec<u64>, AllocError>
+    ensures length { IfOk result (λ others. length others.items ≡ length bits.now) }
+    ensures others { IfOk result (λ others. AreOthers bits.now others.items) }
+{
+    let mut others = Vec::with_capacity(alloc, bits.len())?;
+    for &block in bits {
+        others.push_reserved(!block);
+    }
+    Ok(others)
+}
+
+/// The first bit that is not set, if there is one.
+pub(crate) fn first_unset(bits: &[u64]) -> Option<usize>
+    requires { length bits.now ≤ 2 ^ 25 }
+    ensures known { IfSome result (λ j. j < 64 * length bits.now) }
+    ensures unset { IfSome result (λ j. bit bits.now j ≡ false) }
+    ensures none { IfNone result ((j : ℕ) → j < 64 * length bits.now → bit bits.now j ≡ true) }
+{
+    for b in 0..bits.len() {
+        let others = !bits[b];
+        if others != 0 {
+            return Some(64 * b + others.trailing_zeros() as usize);
+        }
+    }
+    None
 }

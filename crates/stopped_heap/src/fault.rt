@@ -185,6 +185,34 @@ pub enum LookFault {
     OutOfMemory,
 }
 
+/// Why the objects at which a marking looked are not as they must be. `WrongLength` comes first. Among the others no
+/// order is promised: the fault that is answered is there, and there may be others too.
+#[derive(Clone, Copy, Debug, PartialEq, Eq, Error)]
+pub enum CheckFault {
+    /// There are not as many words as the marking has.
+    #[error("there are not as many words as the marking has")]
+    WrongLength,
+    /// The object at this index was looked at, and it is too long, it ends past the words, the bit of one of its words
+    /// is not set, or it has a word with another object that was looked at. So its header is another one now.
+    #[error("the object at {0} was changed")]
+    Changed(u64),
+    /// The word at this index is a reference of an object that was looked at, and neither null nor the address of an
+    /// object that was met, nor an immediate.
+    #[error("the reference at {0} leads to no object that was met")]
+    Unmarked(u64),
+    /// The word at this index is a weak word of an object that was looked at, and neither null nor the address of one of
+    /// the words, nor an immediate.
+    #[error("the weak word at {0} leads nowhere")]
+    BadWeak(u64),
+    /// The bit of the word at this index is set, and the word belongs to no object that was looked at. So an object is
+    /// shorter now.
+    #[error("the word at {0} belongs to no object")]
+    Unowned(u64),
+    /// An allocation failed. There are as many words as the marking has.
+    #[error("out of memory")]
+    OutOfMemory,
+}
+
 /// Why the objects to which values lead are not met.
 #[derive(Clone, Copy, Debug, PartialEq, Eq, Error)]
 pub enum MeetFault {
@@ -195,6 +223,36 @@ pub enum MeetFault {
     #[error("out of memory")]
     OutOfMemory,
 }
+
+/// Why the lanes of two markers are not joined.
+#[derive(Clone, Copy, Debug, PartialEq, Eq, Error)]
+pub enum JoinFault {
+    /// They are not of heaps of one edition and of as many words.
+    #[error("the lanes are of different heaps")]
+    OtherHeap,
+    /// Both met the object at this index and let it wait or looked at it, or both looked at an object with this word.
+    #[error("both lanes have the word at {0}")]
+    Overlap(u64),
+    /// An allocation failed. There is no other fault.
+    #[error("out of memory")]
+    OutOfMemory,
+}
+
+impl From<AllocError> for JoinFault {
+    ghost use Rattle.std.specs.Prelude.{◌≡◌};
+    ghost use Rattle.stopped_heap.specs.declared.fault.JoinFault.TheVariants as join;
+
+    ghost from_gives = { λ _ fault. fault ≡ join.OutOfMemory };
+
+    fn from(_error: AllocError) -> JoinFault {
+        JoinFault::OutOfMemory
+    }
+}
+
+/// Why lanes are not the whole of a marking: the object at this index is known, and none of them has it.
+#[derive(Clone, Copy, Debug, PartialEq, Eq, Error)]
+#[error("no lane has the object at {0}")]
+pub struct Missing(pub u64);
 
 /// Why a heap is not collected.
 #[derive(Clone, Copy, Debug, PartialEq, Eq, Error)]

@@ -14,7 +14,8 @@
 //! `Places::of_bits` takes bits of the caller's own with no look at the words: of which objects are marked, and which
 //! words are theirs. Then the slide asks what a survey asks, and whatever it lets through loses nothing, whoever marked.
 //! `Looks` is such a marking, of objects that are handed in one by one while threads write: if each object that was
-//! written to is looked at again, no part that slides is refused.
+//! written to is looked at again, no part that slides is refused. Several markers look at a heap each in a `Lane` of its
+//! own; lanes are joined at the end.
 //!
 //! A root that is not handed in is lost. The addresses before and after a collection are numbers of one range, so one
 //! that was kept elsewhere, or is forwarded twice, may be that of another object. During a call no other thread may
@@ -22,6 +23,8 @@
 #![tactic(auto)]
 
 mod bits;
+mod checking;
+mod claims;
 mod collecting;
 mod collecting_lent;
 mod ephemerons;
@@ -34,6 +37,12 @@ mod growing;
 mod guarding;
 mod in_place;
 mod kept;
+mod lane;
+mod lane_bits;
+mod lane_joining;
+mod lane_looking;
+mod lane_meeting;
+mod lane_rows;
 mod laws;
 mod lending;
 mod live_bits;
@@ -64,13 +73,14 @@ mod trying;
 pub use collecting::collect;
 pub use collecting_lent::collect_lent;
 pub use fault::{
-    BitsFault, ByBitsFault, CollectFault, CollectLentFault, FinishFault, LentFault, LookFault,
-    MarksFault, MarksLentFault, MeetFault, SlideFault, SurveyFault,
+    BitsFault, ByBitsFault, CheckFault, CollectFault, CollectLentFault, FinishFault, JoinFault,
+    LentFault, LookFault, MarksFault, MarksLentFault, MeetFault, Missing, SlideFault, SurveyFault,
 };
 pub use given::{collect_by_bits, slid_is_sound};
 pub use growing::{Growing, NotGrown};
 pub use guarding::{Guarded, survey_guarded};
 pub use in_place::{collect_in_place, collect_in_place_lent};
+pub use lane::Lane;
 pub use laws::{
     accepted_is_sound, collected_is_accepted, collected_is_one, collected_is_reached,
     collected_is_slid, found_has_no_fault, led_is_settled, parts_are_whole, reached_is_marked,

@@ -14,19 +14,19 @@ use crate::meeting::{Stop, check_leads, meet_all};
 use crate::shape::shape_of;
 use heap_layout::Edition;
 
-// Some of the words that were handed in.
+/// Some of the words that were handed in.
 #[inline(always)]
-fn part(run: &[u64], first: usize, many: usize) -> &[u64]
+pub(crate) fn part(run: &[u64], first: usize, many: usize) -> &[u64]
     requires { first + many ≤ length run.now }
     ensures { result.now ≡ take many (drop first run.now) }
 {
     &run[first..first + many]
 }
 
-// Sets the bits of the words of the object at index `i`, which its header says. Err if it does not lie within `count`
-// words, or if one of its bits is set.
+/// Sets the bits of the words of the object at index `i`, which its header says. Err if it does not lie within `count`
+/// words, or if one of its bits is set.
 #[inline(always)]
-fn place(
+pub(crate) fn place(
     edition: Edition,
     count: usize,
     bits: &mut [u64],

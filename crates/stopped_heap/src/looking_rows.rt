@@ -10,9 +10,9 @@ use crate::looking_at::look_at;
 use crate::shape::shape_of;
 use heap_layout::Edition;
 
-// The row that begins at this word: as many words as its header says, or those that are left.
+/// The row that begins at this word: as many words as its header says, or those that are left.
 #[inline(always)]
-fn row_at(edition: Edition, rows: &[u64], at: usize) -> &[u64]
+pub(crate) fn row_at(edition: Edition, rows: &[u64], at: usize) -> &[u64]
     requires { at < length rows.now }
     ensures { result.now ≡ take (row_size edition (slice_index rows.now at)) (drop at rows.now) }
 {

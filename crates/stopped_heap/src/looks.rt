@@ -114,6 +114,13 @@ impl Looks {
         many
     }
 
+    /// How many of the objects that were met were looked at, in the order in which they were met.
+    pub fn looked(&self) -> usize
+        ensures { result ≡ self.now.looked }
+    {
+        self.next
+    }
+
     /// Whether an object was met at this index.
     pub fn is_met(&self, i: usize) -> bool
         ensures { result ≡ bit self.now.heads i }

@@ -3,6 +3,8 @@
 #![tactic(auto)]
 
 #[cfg(test)]
+mod checked_looks;
+#[cfg(test)]
 mod drawing;
 #[cfg(test)]
 mod drawn_by_threads;
@@ -23,9 +25,15 @@ mod expected;
 #[cfg(test)]
 mod given_bits;
 #[cfg(test)]
+mod given_lanes;
+#[cfg(test)]
 mod growing;
 #[cfg(test)]
 mod guarding;
+#[cfg(test)]
+mod joined_lanes;
+#[cfg(test)]
+mod lanes;
 #[cfg(test)]
 mod long_objects;
 #[cfg(test)]

@@ -1,0 +1,135 @@
+use Rattle.std.proofs.Common.{◌≡◌, ℕ, ◌+◌, ◌-◌, ◌<◌, ◌⊎◌, List, [], length, get_or, drop, take, inl, inr, refl, sym, ap, subst, ◌∙◌, arith, length-take, length-drop}
+use Rattle.std.proofs.lemmas.Result.{err_from_is_err_and}
+use Rattle.std.proofs.lemmas.List.{get_or_default, take_all}
+use Rattle.reachability.proofs.Queues.{has-at}
+use Rattle.stopped_heap.specs.Lanes.{laned, IsLaneAfterRows, IsLaneFieldsFault}
+use Rattle.stopped_heap.specs.LookFaults.{IsPlacingFault}
+use Rattle.stopped_heap.specs.Looks.{row_size, rows_of, AreLookedAt, AreRowsAt}
+use Rattle.stopped_heap.proofs.LanedRows.{AreLaneTaken, lane-taken-after, lane-taken-more}
+use Rattle.stopped_heap.proofs.RowsLooked.{row-at, rows-all}
+use Rattle.stopped_heap.proofs.lane_rows.look_each.Goals as goal
+
+pub returns-then-next-len-clause-fault : goal.returns-then-next-len-clause-fault
+returns-then-next-len-clause-fault c =
+    let inv = c.loop-at.invariant in
+    let e = c.args.edition in
+    let words = c.args.rows.now in
+    let at = c.loop-at.at in
+    let k = c.loop-at.next - c.args.first in
+    let row = take (row_size e (get_or words at 0)) (drop at words) in
+    let is = row-at e words row at k c.loop-at-test.true refl inv.left in
+    let after = lane-taken-after e c.args.count c.args.queue.now.items c.loop-at.queue.items c.args.first c.loop-at.next k (rows_of e words)
+    c.args.heads.now c.args.bits.now c.args.known.now c.loop-at.heads c.loop-at.bits c.loop-at.known (omega (arith, inv.first)) inv.taken in (
+      k,
+      is.inside,
+      laned e c.args.count c.loop-at.queue.items c.loop-at.next c.loop-at.heads c.loop-at.bits c.loop-at.known,
+      after,
+      inl (refl, omega (arith, c.if-next-len.true, c.len.ensures)),
+    )
+
+pub look_known-requires-clause-inside : goal.look_known-requires-clause-inside
+look_known-requires-clause-inside c =
+    let queue = c.loop-at.queue.items in
+    let next = c.loop-at.next in
+    let i = c.index.result.now in
+    let within : next < length queue = omega (arith, c.if-next-len.false, c.len.ensures) in
+    let here : get_or queue next 0 ≡ i = get_or_default queue next 0 i within ∙ sym c.index.ensures in
+    let lt = c.loop-at.invariant.once.within (get_or queue next 0) (has-at queue next within) in
+    omega (arith, lt, here)
+
+pub returns-in_err-look_known-clause-fault : goal.returns-in_err-look_known-clause-fault
+returns-in_err-look_known-clause-fault c =
+    let inv = c.loop-at.invariant in
+    let e = c.args.edition in
+    let count = c.args.count in
+    let words = c.args.rows.now in
+    let at = c.loop-at.at in
+    let next = c.loop-at.next in
+    let k = next - c.args.first in
+    let queue = c.loop-at.queue.items in
+    let known = c.loop-at.known in
+    let bits = c.loop-at.bits in
+    let row = c.row_at-row.result.now in
+    let rows = rows_of e words in
+    let fault = c.in_err-look_known.field-0.0 in
+    let is = row-at e words row at k c.loop-at-test.true c.row_at-row.ensures inv.left in
+    let after = lane-taken-after e count c.args.queue.now.items queue c.args.first next k rows
+    c.args.heads.now c.args.bits.now c.args.known.now c.loop-at.heads bits known (omega (arith, inv.first)) inv.taken in
+    let within : next < length queue = omega (arith, c.if-next-len.false, c.len.ensures) in
+    let i = c.index.result.now in
+    let here : get_or queue next 0 ≡ i = get_or_default queue next 0 i within ∙ sym c.index.ensures in
+    let cause : IsPlacingFault e count bits (get_or queue next 0) (get_or rows k []) fault ⊎ IsLaneFieldsFault e count known (get_or queue next 0) (get_or rows k []) fault =
+    subst (λ (r : List ℕ). IsPlacingFault e count bits (get_or queue next 0) r fault ⊎ IsLaneFieldsFault e count known (get_or queue next 0) r fault) (sym is.is)
+    (subst (λ (n : ℕ). IsPlacingFault e count bits n row fault ⊎ IsLaneFieldsFault e count known n row fault) (sym here) c.in_err-look_known.ensures.fault) in
+    let p = err_from_is_err_and c.from_residual.result c.from_residual.ensures.1 in
+    rw (p.1, p.2)
+    (k, is.inside, laned e count queue next c.loop-at.heads bits known, after, inr (within, cause))
+
+pub loop-at-preserved : goal.loop-at-preserved
+loop-at-preserved c =
+    let inv = c.loop-at.invariant in
+    let e = c.args.edition in
+    let words = c.args.rows.now in
+    let at = c.loop-at.at in
+    let next = c.loop-at.next in
+    let first = c.args.first in
+    let k = next - first in
+    let queue = c.loop-at.queue.items in
+    let row = c.row_at-row.result.now in
+    let rows = rows_of e words in
+    let is = row-at e words row at k c.loop-at-test.true c.row_at-row.ensures inv.left in
+    let within : next < length queue = omega (arith, c.if-next-len.false, c.len.ensures) in
+    let place : first + k ≡ next = omega (arith, inv.first) in
+    let more : next + 1 - first ≡ k + 1 = omega (arith, inv.first) in
+    let i = c.index.result.now in
+    let here : get_or queue (first + k) 0 ≡ i = ap (λ (n : ℕ). get_or queue n 0) place ∙ get_or_default queue next 0 i within ∙ sym c.index.ensures in
+    let step = c.in_ok-look_known.ensures in
+    let kept = (step.told.stay next within).0 in
+    let taken = lane-taken-more e c.args.count c.args.queue.now.items queue c.look_known.new.queue.items first k rows row i c.args.known.now c.args.bits.now c.loop-at.known c.loop-at.bits
+    c.look_known.new.known c.look_known.new.bits (omega (arith, place, within)) here is.is is.inside inv.taken (record {
+      told = step.told;
+      looked = step.looked;
+      set = step.set;
+      words = step.words;
+      only = step.only;
+    }) in
+    record {
+      first = omega (arith, inv.first);
+      within = omega (arith, kept);
+      place = omega (arith, ap (λ (xs : List ℕ). length xs) c.row_at-row.ensures, length-take (row_size e (get_or words at 0)) (drop at words), length-drop at words, c.loop-at-test.true);
+      some = omega (arith, is.inside, more);
+      left = ap (λ (n : ℕ). drop n rows) more ∙ is.left;
+      met = step.met;
+      once = step.once;
+      known = c.look_known.ensures.known ∙ inv.known;
+      heads = c.look_known.ensures.heads ∙ inv.heads;
+      bits = c.look_known.ensures.bits ∙ inv.bits;
+      taken = subst (λ (n : ℕ). AreLaneTaken e c.args.count c.args.queue.now.items c.look_known.new.queue.items first n rows c.args.known.now c.args.bits.now c.look_known.new.known c.look_known.new.bits) (sym more) taken;
+    }
+
+pub returns-clause-after : goal.returns-clause-after
+returns-clause-after c =
+    let inv = c.loop-at.invariant in
+    let e = c.args.edition in
+    let count = c.args.count in
+    let first = c.args.first in
+    let next = c.loop-at.next in
+    let k = next - first in
+    let queue = c.loop-at.queue.items in
+    let rows = rows_of e c.args.rows.now in
+    let all = rows-all e c.args.rows.now c.loop-at.at k c.loop-at-test.false inv.some inv.left in
+    let after = lane-taken-after e count c.args.queue.now.items queue first next k rows c.args.heads.now c.args.bits.now c.args.known.now
+    c.loop-at.heads c.loop-at.bits c.loop-at.known (omega (arith, inv.first)) inv.taken in
+    subst (λ (n : ℕ). IsLaneAfterRows (laned e count c.args.queue.now.items first c.args.heads.now c.args.bits.now c.args.known.now) rows n
+    (laned e count queue next c.loop-at.heads c.loop-at.bits c.loop-at.known)) all after
+
+pub returns-clause-looked : goal.returns-clause-looked
+returns-clause-looked c = λ words counted at are.
+    let inv = c.loop-at.invariant in
+    let e = c.args.edition in
+    let k = c.loop-at.next - c.args.first in
+    let rows = rows_of e c.args.rows.now in
+    let all = rows-all e c.args.rows.now c.loop-at.at k c.loop-at-test.false inv.some inv.left in
+    let at_taken = subst (AreRowsAt words c.loop-at.queue.items c.args.first) (sym (take_all k rows (omega (arith, all)))) at in
+    let place : c.args.first + k ≡ c.loop-at.next = omega (arith, inv.first) in
+    subst (λ (n : ℕ). AreLookedAt e words c.loop-at.queue.items n c.loop-at.known c.loop-at.bits) place (inv.taken.looked words counted at_taken are)
