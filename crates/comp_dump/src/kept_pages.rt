@@ -2,7 +2,8 @@
 ghost use Rattle.std.specs.Prelude.{◌≡◌, All, None, length, map, slice_index_or};
 ghost use Rattle.comp_dump.specs.Lent.{record_of, IsTypedRecord};
 
-use crate::page::{DumpedPage, OwnedPage, page_is_typed};
+use crate::page::{DumpedPage, page_is_typed};
+use crate::sparse_pages::SparsePages;
 use cell_steps::ClosedPages;
 use std::marker::Model;
 
@@ -12,7 +13,7 @@ enum KeptPages<'a> {
     // In a finished heap, where its cells had them.
     Lent(&'a ClosedPages),
     // In the dump's own memory.
-    Owned(Vec<Option<OwnedPage>>),
+    Owned(SparsePages),
 }
 
 /// All pages of a dump, compacted pages first: those of a finished heap, or those that were read.
@@ -44,9 +45,9 @@ impl<'a> DumpedPages<'a> {
         }
     }
 
-    /// Takes pages that were read. None stands for a page that was never built.
-    pub(crate) fn owned(pages: Vec<Option<OwnedPage>>) -> DumpedPages<'a>
-        ensures { result ≡ pages.items }
+    /// Takes pages that were read.
+    pub(crate) fn owned(pages: SparsePages) -> DumpedPages<'a>
+        ensures { result ≡ pages }
     {
         DumpedPages {
             kept: KeptPages::Owned(pages),
@@ -72,11 +73,7 @@ impl<'a> DumpedPages<'a> {
                 None => None,
                 Some(page) => Some(DumpedPage::lent(page)),
             },
-            KeptPages::Owned(pages) => match pages.get(p) {
-                None => None,
-                Some(None) => None,
-                Some(Some(page)) => Some(DumpedPage::owned(page)),
-            },
+            KeptPages::Owned(pages) => pages.page(p),
         }
     }
 }

@@ -17,6 +17,7 @@ use crate::kept_pages::DumpedPages;
 use crate::page::OwnedPage;
 use crate::reading::fields::{expect, expect_end, read_edition, read_four};
 use crate::reading::{read_list, read_root_count};
+use crate::sparse_pages::SparsePages;
 use heap_layout::{Counted, Edition, OutOfMemory, PAGE_WORDS, PageWords};
 use std::alloc::{AllocError, Global};
 use std::io::Read;
@@ -133,13 +134,14 @@ fn read_file<R: Read>(
 }
 
 // The words, cut into pages, with zeros after the last word.
-fn cut_pages(alloc: Global, words: &[u64]) -> Result<Vec<Option<OwnedPage>>, OutOfMemory>
-    ensures { IfOk result (λ pages. pages.items ≡ map (λ p. Some (page_of_words words.now p)) (range_with_len 0 (pages_filled words.now))) }
+fn cut_pages(alloc: Global, words: &[u64]) -> Result<SparsePages, OutOfMemory>
+    requires { pages_filled words.now < 2 ^ 32 }
+    ensures { IfOk result (λ pages. pages ≡ map (λ p. Some (page_of_words words.now p)) (range_with_len 0 (pages_filled words.now))) }
 {
     let count = words.len().div_ceil(PAGE_WORDS);
-    let mut pages = Vec::with_capacity(alloc, count)?;
+    let mut pages = SparsePages::new(alloc);
     for p in 0..count {
-        pages.push_reserved(Some(cut_page(alloc, words, p)?));
+        pages.push(Some(cut_page(alloc, words, p)?))?;
     }
     Ok(pages)
 }
