@@ -1,13 +1,16 @@
-//! To-space as a dump has it: who built each page, its entries, and the fresh pages with their new objects.
-ghost use Rattle.std.specs.Prelude.{◌<◌};
+//! To-space as a dump has it, in cells of words: who built each page, its entries, and the fresh pages with their new
+//! objects.
+ghost use Rattle.std.specs.Prelude.{◌≡◌, ◌^◌, ◌<◌, ◌≤◌, [], ◌∷◌, IfOk, OnOk, None, slice_index_or};
+ghost use Rattle.std.specs.String.{string_bytes};
+ghost use Rattle.heap_map.specs.Cells.{Adds};
+ghost use Rattle.heap_map.specs.Pictures.{entries_text, hatched_row, page_row, page_rows};
+ghost use Rattle.heap_map.specs.declared.layout.Scale.TheVariants as scales;
 
-use crate::frame::Frame;
 use crate::grid::{Grid, Point, RIGHT, put, put_numbered};
-use crate::made::{made_at, new_words};
-use crate::pages::{shade, slid_in};
+use crate::made::made_at;
 use crate::palette::Colour;
 use crate::words::{Slide, draw_page, kind_at, put_word, skip_page};
-use comp_dump::{Dump, DumpedPage};
+use comp_dump::Dump;
 use comp_journal::Entry;
 use heap_layout::{Edition, Header};
 use page_plan::Plan;
@@ -37,23 +40,44 @@ pub fn builder_of(builders: &[Option<u8>], p: u64) -> Option<u8> {
     builders.get(p as usize).copied().flatten()
 }
 
-/// Adds the pages of a dump in cells of words.
-pub fn draw_dumped_words(
+/// Adds the compacted pages of a dump in cells of words.
+pub fn draw_compacted_rows(
     picture: &mut String,
-    frame: &Frame,
+    grid: &Grid,
     plan: &Plan,
     dump: &Dump<'_>,
     builders: &[Option<u8>],
-) -> Result<(), AllocError> {
+) -> Result<(), AllocError>
+    requires scale { grid.now.scale ≡ scales.Words }
+    requires few { grid.now.pages < 2 ^ 57 }
+    ensures { OnOk result (Adds (page_rows grid.now.top dump.now 0 grid.now.pages) (string_bytes picture.old) (string_bytes picture.new)) }
+{
     let mut slide = Slide::new();
-    for p in 0..frame.to.pages {
-        slide = draw_compacted(picture, &frame.to, plan, dump, p, slide)?;
-        draw_row(picture, &frame.to, p, dump, p, builder_of(builders, p))?;
+    for p in 0..grid.pages {
+        let next = draw_compacted(picture, grid, plan, dump, p, slide)?;
+        slide = next;
+        draw_row(picture, grid, p, dump, p, builder_of(builders, p))?;
     }
-    for f in 0..frame.fresh.pages {
-        let p = frame.to.pages.saturating_add(f);
-        draw_fresh(picture, &frame.fresh, f, dump, p)?;
-        draw_row(picture, &frame.fresh, f, dump, p, builder_of(builders, p))?;
+    Ok(())
+}
+
+/// Adds the fresh pages of a dump, from page `first` on, in cells of words.
+pub fn draw_fresh_rows(
+    picture: &mut String,
+    grid: &Grid,
+    dump: &Dump<'_>,
+    builders: &[Option<u8>],
+    first: u64,
+) -> Result<(), AllocError>
+    requires scale { grid.now.scale ≡ scales.Words }
+    requires few { grid.now.pages < 2 ^ 57 }
+    requires low { first < 2 ^ 57 }
+    ensures { OnOk result (Adds (page_rows grid.now.top dump.now first grid.now.pages) (string_bytes picture.old) (string_bytes picture.new)) }
+{
+    for row in 0..grid.pages {
+        let p = first + row;
+        draw_fresh(picture, grid, row, dump, p)?;
+        draw_row(picture, grid, row, dump, p, builder_of(builders, p))?;
     }
     Ok(())
 }
@@ -66,7 +90,9 @@ fn draw_compacted(
     dump: &Dump<'_>,
     p: u64,
     slide: Slide,
-) -> Result<Slide, AllocError> {
+) -> Result<Slide, AllocError>
+    ensures { OnOk result (Adds [] (string_bytes picture.old) (string_bytes picture.new)) }
+{
     if p >= plan.pages() {
         return Ok(slide);
     }
@@ -83,7 +109,9 @@ fn draw_fresh(
     row: u64,
     dump: &Dump<'_>,
     p: u64,
-) -> Result<(), AllocError> {
+) -> Result<(), AllocError>
+    ensures { OnOk result (Adds [] (string_bytes picture.old) (string_bytes picture.new)) }
+{
     match dump.pages().page(p as usize) {
         None => Ok(()),
         Some(page) => draw_new_objects(picture, grid, row, dump.edition(), page.journal()),
@@ -97,15 +125,37 @@ fn draw_new_objects(
     row: u64,
     edition: Edition,
     journal: &[Entry],
-) -> Result<(), AllocError> {
+) -> Result<(), AllocError>
+    ensures { OnOk result (Adds [] (string_bytes picture.old) (string_bytes picture.new)) }
+{
     let mut end = 0;
     for entry in journal {
-        if let Some(header) = made_at(edition, *entry, end) {
-            draw_new_object(picture, grid, row, end, header)?;
-            end += header.size();
-        }
+        let next = draw_entry(picture, grid, row, edition, *entry, end)?;
+        end = next;
     }
     Ok(())
+}
+
+// Adds the object that an entry makes at the offset `end`, if it makes one there. Answers where the next starts.
+fn draw_entry(
+    picture: &mut String,
+    grid: &Grid,
+    row: u64,
+    edition: Edition,
+    entry: Entry,
+    end: u32,
+) -> Result<u32, AllocError>
+    requires { end ≤ 64 }
+    ensures low { IfOk result (λ next. next ≤ 64) }
+    ensures grows { OnOk result (Adds [] (string_bytes picture.old) (string_bytes picture.new)) }
+{
+    match made_at(edition, entry, end) {
+        None => Ok(end),
+        Some(header) => {
+            draw_new_object(picture, grid, row, end, header)?;
+            Ok(end + header.size())
+        }
+    }
 }
 
 // Adds a new object that starts at an offset of a page.
@@ -115,7 +165,9 @@ fn draw_new_object(
     row: u64,
     offset: u32,
     header: Header,
-) -> Result<(), AllocError> {
+) -> Result<(), AllocError>
+    ensures { OnOk result (Adds [] (string_bytes picture.old) (string_bytes picture.new)) }
+{
     for within in 0..header.size() {
         let index = row
             .saturating_mul(64)
@@ -140,23 +192,42 @@ fn draw_row(
     dump: &Dump<'_>,
     p: u64,
     builder: Option<u8>,
-) -> Result<(), AllocError> {
-    let corner = grid.corner(row.saturating_mul(64));
+) -> Result<(), AllocError>
+    requires scale { grid.now.scale ≡ scales.Words }
+    requires few { row < 2 ^ 57 }
+    ensures { OnOk result (Adds (page_row grid.now.top row (slice_index_or dump.now.pages p None)) (string_bytes picture.old) (string_bytes picture.new)) }
+{
+    note_page(picture, grid, row, dump, p)?;
+    frame_page(picture, grid.corner(row * 64), builder)
+}
+
+// Hatches the cells of a page that was never built, or says how many entries it has.
+fn note_page(
+    picture: &mut String,
+    grid: &Grid,
+    row: u64,
+    dump: &Dump<'_>,
+    p: u64,
+) -> Result<(), AllocError>
+    requires scale { grid.now.scale ≡ scales.Words }
+    requires few { row < 2 ^ 57 }
+    ensures { OnOk result (Adds (page_row grid.now.top row (slice_index_or dump.now.pages p None)) (string_bytes picture.old) (string_bytes picture.new)) }
+{
     match dump.pages().page(p as usize) {
-        None => hatch(picture, grid, row)?,
-        Some(page) => note_entries(picture, corner, &page)?,
-    }
-    match builder {
-        None => Ok(()),
-        Some(mutator) => frame_page(picture, corner, mutator),
+        None => hatch(picture, grid, row),
+        Some(page) => note_entries(picture, grid, row, page.journal().len()),
     }
 }
 
 // Hatches the cells of a page that was never built.
-fn hatch(picture: &mut String, grid: &Grid, row: u64) -> Result<(), AllocError> {
+fn hatch(picture: &mut String, grid: &Grid, row: u64) -> Result<(), AllocError>
+    requires scale { grid.now.scale ≡ scales.Words }
+    requires few { row < 2 ^ 57 }
+    ensures { OnOk result (Adds (hatched_row grid.now.top row) (string_bytes picture.old) (string_bytes picture.new)) }
+{
     for offset in 0..64 {
-        let index = row.saturating_mul(64).saturating_add(offset);
-        put(picture, "miss", grid.corner(index))?;
+        let corner = grid.corner(row * 64 + offset);
+        put(picture, "miss", corner)?;
     }
     Ok(())
 }
@@ -164,120 +235,38 @@ fn hatch(picture: &mut String, grid: &Grid, row: u64) -> Result<(), AllocError> 
 // Says at a row how many entries its page has.
 fn note_entries(
     picture: &mut String,
-    corner: Point,
-    page: &DumpedPage<'_>,
-) -> Result<(), AllocError> {
-    let entries = page.journal().len();
-    let y = corner.base();
-    let x = RIGHT + 32;
+    grid: &Grid,
+    row: u64,
+    entries: usize,
+) -> Result<(), AllocError>
+    requires scale { grid.now.scale ≡ scales.Words }
+    requires few { row < 2 ^ 57 }
+    ensures { OnOk result (Adds (entries_text grid.now.top row entries ∷ []) (string_bytes picture.old) (string_bytes picture.new)) }
+{
+    let y = grid.corner(row * 64).base();
+    // 976 is 32 to the right of the number of its mutator.
     write!(
         picture,
-        "<text x=\"{x}\" y=\"{y}\">entries {entries}</text>\n"
+        "<text x=\"976\" y=\"{y}\">entries {entries}</text>\n"
     )
 }
 
-// Frames a row in the colour of the mutator that built its page, and says its number.
-fn frame_page(picture: &mut String, corner: Point, mutator: u8) -> Result<(), AllocError> {
+// Frames a row in the colour of the mutator that built its page, and says its number, if there is one.
+fn frame_page(picture: &mut String, corner: Point, builder: Option<u8>) -> Result<(), AllocError>
+    ensures { OnOk result (Adds [] (string_bytes picture.old) (string_bytes picture.new)) }
+{
+    match builder {
+        None => Ok(()),
+        Some(mutator) => frame_by(picture, corner, mutator),
+    }
+}
+
+// Frames a row in the colour of a mutator, and says its number.
+fn frame_by(picture: &mut String, corner: Point, mutator: u8) -> Result<(), AllocError>
+    ensures { OnOk result (Adds [] (string_bytes picture.old) (string_bytes picture.new)) }
+{
     let colour = Colour::of_number(u64::from(mutator));
     put_numbered(picture, "b", colour.number(), corner)?;
     let y = corner.base();
     write!(picture, "<text x=\"{RIGHT}\" y=\"{y}\">m{mutator}</text>\n")
-}
-
-/// What a cell of pages of a dump has.
-#[derive(Clone, Copy)]
-struct CellCounts {
-    // How many of its pages were built.
-    built: u64,
-    // How many entries these have.
-    entries: u64,
-    // How many words of new objects.
-    new_words: u64,
-    // The builder of the first of them that a list names.
-    builder: Option<u8>,
-}
-
-/// Adds the pages of a dump in cells of pages.
-pub fn draw_dumped_pages(
-    picture: &mut String,
-    frame: &Frame,
-    plan: &Plan,
-    dump: &Dump<'_>,
-    builders: &[Option<u8>],
-) -> Result<(), AllocError> {
-    let words = frame.to.scale.words_of_cell();
-    for cell in 0..frame.to.cells() {
-        let begin = frame.to.cell_start(cell);
-        let counts = counts_of(dump, builders, begin / 64, words / 64, frame.to.pages);
-        let live = slid_in(plan, begin, words);
-        draw_cell(picture, frame.to.corner(begin), counts, shade(live, words))?;
-    }
-    for cell in 0..frame.fresh.cells() {
-        let begin = frame.fresh.cell_start(cell);
-        let first = frame.to.pages.saturating_add(begin / 64);
-        let counts = counts_of(dump, builders, first, words / 64, dump.pages().len() as u64);
-        let shade = shade(counts.new_words, words);
-        draw_cell(picture, frame.fresh.corner(begin), counts, shade)?;
-    }
-    Ok(())
-}
-
-// What the pages from `first` on have, at most `many` of them, and only those below `end`.
-fn counts_of(
-    dump: &Dump<'_>,
-    builders: &[Option<u8>],
-    first: u64,
-    many: u64,
-    end: u64,
-) -> CellCounts {
-    let mut counts = CellCounts {
-        built: 0,
-        entries: 0,
-        new_words: 0,
-        builder: None,
-    };
-    for p in first..first.saturating_add(many).min(end) {
-        if let Some(page) = dump.pages().page(p as usize) {
-            counts.built = counts.built.saturating_add(1);
-            counts.entries = counts.entries.saturating_add(page.journal().len() as u64);
-            let new_words = new_words(dump.edition(), page.journal());
-            counts.new_words = counts.new_words.saturating_add(u64::from(new_words));
-        }
-        counts.builder = counts.builder.or(builder_of(builders, p));
-    }
-    counts
-}
-
-// Adds a cell of pages: hatched if none was built; else its shade, and a dot for its entries; and a frame in the colour
-// of its builder.
-fn draw_cell(
-    picture: &mut String,
-    corner: Point,
-    counts: CellCounts,
-    shade: u64,
-) -> Result<(), AllocError> {
-    if counts.built == 0 {
-        put(picture, "miss", corner)?;
-    } else {
-        put_numbered(picture, "s", shade, corner)?;
-    }
-    if let Some(mutator) = counts.builder {
-        let colour = Colour::of_number(u64::from(mutator));
-        put_numbered(picture, "m", colour.number(), corner)?;
-    }
-    match heat(counts.entries) {
-        0 => Ok(()),
-        step => put_numbered(picture, "e", step, corner),
-    }
-}
-
-// The step of so many entries: 0 if there are none, then 1 below 16, 2 below 128, 3 below 512, and else 4.
-fn heat(entries: u64) -> u64 {
-    match entries {
-        0 => 0,
-        1..=15 => 1,
-        16..=127 => 2,
-        128..=511 => 3,
-        _ => 4,
-    }
 }

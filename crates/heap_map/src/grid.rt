@@ -1,6 +1,8 @@
 //! Where the cells of a space stand in the picture.
-ghost use Rattle.std.specs.Prelude.{◌≡◌, ◌+◌, ◌*◌, ◌^◌, ◌<◌};
-ghost use Rattle.heap_map.specs.Layout.{cell_at};
+ghost use Rattle.std.specs.Prelude.{◌≡◌, ◌+◌, ◌*◌, ◌/◌, ◌^◌, ◌<◌, [], ◌++◌, decimal, OnOk};
+ghost use Rattle.std.specs.String.{string_bytes};
+ghost use Rattle.heap_map.specs.Cells.{Adds};
+ghost use Rattle.heap_map.specs.Layout.{cell_at, cell_count, nth_cell, shape_text};
 
 use crate::layout::Scale;
 use std::alloc::AllocError;
@@ -26,7 +28,9 @@ pub struct Point {
 
 impl Point {
     /// The base of a line of text at the cell with this upper left corner.
-    pub fn base(self) -> u64 {
+    pub fn base(self) -> u64
+        ensures { self.y < 2 ^ 63 → result ≡ self.y + 11 }
+    {
         self.y.saturating_add(11)
     }
 }
@@ -57,16 +61,28 @@ impl Grid {
         }
     }
 
+    /// The upper left corner of the cell with this number.
+    pub fn corner_of(&self, cell: u64) -> Point
+        ensures x { result.x ≡ 160 + 12 * (nth_cell cell).column }
+        ensures y { result.y ≡ self.now.top + 18 * (nth_cell cell).row }
+    {
+        let top = self.top;
+        Point {
+            x: LEFT + cell % 64 * 12,
+            y: u64::from(top) + cell / 64 * ROW,
+        }
+    }
+
     /// Whether there is a word with this index.
     pub fn has(&self, index: u64) -> bool {
         index / 64 < self.pages
     }
 
     /// How many cells there are.
-    pub fn cells(&self) -> u64 {
-        self.pages
-            .saturating_mul(64)
-            .div_ceil(self.scale.words_of_cell())
+    pub fn cells(&self) -> u64
+        ensures { self.now.pages < 2 ^ 58 → result ≡ cell_count self.now.scale self.now.pages }
+    {
+        self.scale.cells_of(self.pages)
     }
 
     /// How many rows the cells have.
@@ -93,7 +109,10 @@ impl Grid {
 }
 
 /// Adds a shape with its upper left corner at a point.
-pub fn put(picture: &mut String, shape: &str, at: Point) -> Result<(), AllocError> {
+pub fn put(picture: &mut String, shape: &str, at: Point) -> Result<(), AllocError>
+    ensures bytes { OnOk result (string_bytes picture.new ≡ string_bytes picture.old ++ shape_text shape.now at.x at.y) }
+    ensures grows { OnOk result (Adds [] (string_bytes picture.old) (string_bytes picture.new)) }
+{
     let Point { x, y } = at;
     write!(
         picture,
@@ -107,7 +126,10 @@ pub fn put_numbered(
     shape: &str,
     number: u64,
     at: Point,
-) -> Result<(), AllocError> {
+) -> Result<(), AllocError>
+    ensures bytes { OnOk result (string_bytes picture.new ≡ string_bytes picture.old ++ shape_text (shape.now ++ decimal number) at.x at.y) }
+    ensures grows { OnOk result (Adds [] (string_bytes picture.old) (string_bytes picture.new)) }
+{
     let Point { x, y } = at;
     write!(
         picture,

@@ -1,6 +1,6 @@
 //! Which word goes to which cell.
 ghost use Rattle.std.specs.Prelude.{◌≡◌, ◌/◌, ◌^◌, ◌<◌};
-ghost use Rattle.heap_map.specs.Layout.{cell_at, cell_number, IsLeast, IsScaleOf};
+ghost use Rattle.heap_map.specs.Layout.{cell_at, cell_count, cell_number, IsLeast, IsScaleOf};
 
 // The most pages of a space of which each word is drawn.
 const MOST_PAGES_OF_WORDS: u64 = 64;
@@ -61,6 +61,22 @@ impl Scale {
         Cell {
             column: cell % 64,
             row: cell / 64,
+        }
+    }
+
+    /// How many cells so many pages have.
+    pub fn cells_of(self, pages: u64) -> u64
+        ensures { pages < 2 ^ 58 → result ≡ cell_count self pages }
+    {
+        match self {
+            Scale::Words => pages.saturating_mul(64),
+            Scale::Pages(k) => {
+                if pages == 0 {
+                    0
+                } else {
+                    by_power(pages - 1, k) + 1
+                }
+            }
         }
     }
 

@@ -4,6 +4,7 @@
 mod arrows;
 mod drawing;
 mod dumped;
+mod dumped_cells;
 mod faulty;
 mod frame;
 mod grid;

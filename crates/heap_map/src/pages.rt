@@ -1,5 +1,8 @@
 //! The heap in cells of pages.
-ghost use Rattle.std.specs.Prelude.{◌^◌, ◌<◌};
+ghost use Rattle.std.specs.Prelude.{◌^◌, ◌<◌, ◌≤◌, OnOk};
+ghost use Rattle.std.specs.String.{string_bytes};
+ghost use Rattle.heap_map.specs.Cells.{AddsCells, IsShade};
+ghost use Rattle.heap_map.specs.Layout.{cell_count};
 
 use crate::grid::{Grid, put_numbered};
 use heap_layout::MarkedHeap;
@@ -10,6 +13,7 @@ use std::alloc::AllocError;
 /// half, 3 up to three quarters, 4 below all, and 5 if all are.
 pub fn shade(live: u64, words: u64) -> u64
     requires { 0 < words }
+    ensures { result ≤ 5 }
 {
     if live == 0 {
         0
@@ -70,13 +74,16 @@ pub fn draw_from_pages(
     picture: &mut String,
     grid: &Grid,
     heap: &MarkedHeap,
-) -> Result<(), AllocError> {
+) -> Result<(), AllocError>
+    requires { grid.now.pages < 2 ^ 58 }
+    ensures { OnOk result (AddsCells grid.now.top (cell_count grid.now.scale grid.now.pages) (λ _ name. IsShade name) (string_bytes picture.old) (string_bytes picture.new)) }
+{
     let words = grid.scale.words_of_cell();
     let mut live_words = LiveWords::new();
     for cell in 0..grid.cells() {
         let begin = grid.cell_start(cell);
         let live = live_words.up_to(heap, begin.saturating_add(words));
-        put_numbered(picture, "s", shade(live, words), grid.corner(begin))?;
+        put_numbered(picture, "s", shade(live, words), grid.corner_of(cell))?;
     }
     Ok(())
 }
@@ -87,12 +94,15 @@ pub fn slid_in(plan: &Plan, begin: u64, words: u64) -> u64 {
 }
 
 /// Adds the cells of the slid words, as the plan has them.
-pub fn draw_slid_pages(picture: &mut String, grid: &Grid, plan: &Plan) -> Result<(), AllocError> {
+pub fn draw_slid_pages(picture: &mut String, grid: &Grid, plan: &Plan) -> Result<(), AllocError>
+    requires { grid.now.pages < 2 ^ 58 }
+    ensures { OnOk result (AddsCells grid.now.top (cell_count grid.now.scale grid.now.pages) (λ _ name. IsShade name) (string_bytes picture.old) (string_bytes picture.new)) }
+{
     let words = grid.scale.words_of_cell();
     for cell in 0..grid.cells() {
         let begin = grid.cell_start(cell);
         let shade = shade(slid_in(plan, begin, words), words);
-        put_numbered(picture, "s", shade, grid.corner(begin))?;
+        put_numbered(picture, "s", shade, grid.corner_of(cell))?;
     }
     Ok(())
 }

@@ -1,4 +1,7 @@
 //! The colours, and the shapes that the picture uses by name.
+ghost use Rattle.std.specs.Prelude.{◌≡◌, ◌%◌};
+ghost use Rattle.heap_map.specs.Cells.{letter_of};
+
 use heap_layout::Kind;
 use std::alloc::AllocError;
 
@@ -38,7 +41,9 @@ pub struct Colour(u8);
 
 impl Colour {
     /// The colour of the object or the mutator with this number. Seven colours take turns.
-    pub fn of_number(number: u64) -> Colour {
+    pub fn of_number(number: u64) -> Colour
+        ensures { result.0 ≡ number % 7 }
+    {
         Colour((number % IN_TURN) as u8)
     }
 
@@ -58,13 +63,17 @@ impl Colour {
     }
 
     /// The number by which the names of its shapes end.
-    pub fn number(self) -> u64 {
+    pub fn number(self) -> u64
+        ensures { result ≡ self.0 }
+    {
         u64::from(self.0)
     }
 }
 
 /// The name of the shape of a word of this kind, without the number of its colour.
-pub fn shape_of(kind: Kind) -> &'static str {
+pub fn shape_of(kind: Kind) -> &'static str
+    ensures { result.now ≡ letter_of kind }
+{
     match kind {
         Kind::Header => "h",
         Kind::Reference => "r",

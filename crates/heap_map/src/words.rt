@@ -1,7 +1,11 @@
 //! The heap in cells of words.
-ghost use Rattle.std.specs.Prelude.{◌<◌};
+ghost use Rattle.std.specs.Prelude.{◌≡◌, ◌+◌, ◌^◌, ◌<◌, ◌≤◌, [], ◌++◌, decimal, length, OnOk};
+ghost use Rattle.std.specs.String.{string_bytes};
 ghost use Rattle.heap_layout.specs.Heap.{live};
 ghost use Rattle.heap_layout.specs.Header.{size_of};
+ghost use Rattle.heap_map.specs.Layout.{cell_at, cell_text};
+ghost use Rattle.heap_map.specs.Cells.{from_place, kind_in, letter_of, live_cells, object_cells, to_place, Adds};
+ghost use Rattle.heap_map.specs.declared.layout.Scale.TheVariants as scales;
 ghost use Rattle.page_plan.specs.Planned.{IsKindOf};
 ghost use Rattle.page_plan.specs.Sliding.{pages};
 
@@ -14,7 +18,8 @@ use std::alloc::AllocError;
 /// What the word at an offset of an object with this header is. The object must have that word.
 pub fn kind_at(header: Header, offset: u32) -> Kind
     requires { offset < size_of header }
-    ensures { IsKindOf header offset result }
+    ensures kind { IsKindOf header offset result }
+    ensures same { result ≡ kind_in header offset }
 {
     if offset == 0 {
         Kind::Header
@@ -34,7 +39,10 @@ pub fn put_word(
     index: u64,
     kind: Kind,
     colour: Colour,
-) -> Result<(), AllocError> {
+) -> Result<(), AllocError>
+    ensures grows { OnOk result (Adds [] (string_bytes picture.old) (string_bytes picture.new)) }
+    ensures cell { OnOk result (string_bytes picture.new ≡ string_bytes picture.old ++ cell_text grid.now.top (letter_of kind ++ decimal colour.0) (cell_at grid.now.scale index)) }
+{
     put_numbered(picture, shape_of(kind), colour.number(), grid.corner(index))
 }
 
@@ -43,21 +51,39 @@ pub fn draw_from_words(
     picture: &mut String,
     grid: &Grid,
     heap: &MarkedHeap,
-) -> Result<(), AllocError> {
-    let marks = heap.marks();
-    let count = heap.words().len();
-    let mut next = 0;
-    let mut colour = Colour::of_number(0);
-    let mut start = 0;
-    while start < count {
+) -> Result<(), AllocError>
+    requires { grid.now.scale ≡ scales.Words }
+    ensures { OnOk result (Adds (live_cells grid.now.top heap.now (from_place heap.now)) (string_bytes picture.old) (string_bytes picture.new)) }
+{
+    let mut end = 0;
+    for (number, &mark) in heap.marks().iter().enumerate() {
+        let header = heap.header_at(mark as usize);
+        draw_unmarked(picture, grid, heap, end, mark as usize)?;
+        let colour = Colour::of_number(number as u64);
+        draw_object(picture, grid, u64::from(mark), header, colour)?;
+        end = mark as usize + header.size() as usize;
+    }
+    draw_unmarked(picture, grid, heap, end, heap.words().len())
+}
+
+// Adds the objects from one index to another, of which none is marked.
+fn draw_unmarked(
+    picture: &mut String,
+    grid: &Grid,
+    heap: &MarkedHeap,
+    begin: usize,
+    end: usize,
+) -> Result<(), AllocError>
+    requires scale { grid.now.scale ≡ scales.Words }
+    requires within { end ≤ length heap.now.words }
+    requires few { end < 2 ^ 63 }
+    ensures { OnOk result (Adds [] (string_bytes picture.old) (string_bytes picture.new)) }
+{
+    let mut start = begin;
+    while start < end {
         let header = heap.header_at(start);
-        if next < marks.len() && marks[next] as usize == start {
-            draw_object(picture, grid, start, header, colour)?;
-            colour = colour.after();
-            next += 1;
-        } else {
-            draw_object(picture, grid, start, header, Colour::of_unmarked())?;
-        }
+        let colour = Colour::of_unmarked();
+        draw_object(picture, grid, start as u64, header, colour)?;
         start = start.saturating_add(header.size() as usize);
     }
     Ok(())
@@ -67,12 +93,16 @@ pub fn draw_from_words(
 fn draw_object(
     picture: &mut String,
     grid: &Grid,
-    start: usize,
+    start: u64,
     header: Header,
     colour: Colour,
-) -> Result<(), AllocError> {
+) -> Result<(), AllocError>
+    requires scale { grid.now.scale ≡ scales.Words }
+    requires few { start < 2 ^ 63 }
+    ensures { OnOk result (Adds (object_cells grid.now.top colour.0 start header) (string_bytes picture.old) (string_bytes picture.new)) }
+{
     for offset in 0..header.size() {
-        let index = (start as u64).saturating_add(u64::from(offset));
+        let index = start + u64::from(offset);
         put_word(picture, grid, index, kind_at(header, offset), colour)?;
     }
     Ok(())
@@ -104,11 +134,21 @@ impl Slide {
     }
 }
 
-/// Adds the slid words, page by page, as the plan has them.
-pub fn draw_slid_words(picture: &mut String, grid: &Grid, plan: &Plan) -> Result<(), AllocError> {
-    let mut slide = Slide::new();
-    for p in 0..plan.pages() {
-        slide = draw_page(picture, grid, plan, p, slide)?;
+/// Adds the slid objects, side by side.
+pub fn draw_slid_words(
+    picture: &mut String,
+    grid: &Grid,
+    heap: &MarkedHeap,
+) -> Result<(), AllocError>
+    requires { grid.now.scale ≡ scales.Words }
+    ensures { OnOk result (Adds (live_cells grid.now.top heap.now (to_place heap.now)) (string_bytes picture.old) (string_bytes picture.new)) }
+{
+    let mut place = 0u64;
+    for (number, &mark) in heap.marks().iter().enumerate() {
+        let header = heap.header_at(mark as usize);
+        let colour = Colour::of_number(number as u64);
+        draw_object(picture, grid, place, header, colour)?;
+        place += u64::from(header.size());
     }
     Ok(())
 }
@@ -122,16 +162,36 @@ pub fn draw_page(
     slide: Slide,
 ) -> Result<Slide, AllocError>
     requires { p < pages (live plan.now) }
+    ensures { OnOk result (Adds [] (string_bytes picture.old) (string_bytes picture.new)) }
 {
     let kinds = plan.page_kinds(p);
     let mut slide = slide;
     for offset in 0..64 {
-        if let Some(kind) = kinds[offset] {
-            let index = p.saturating_mul(64).saturating_add(offset as u64);
-            put_word(picture, grid, index, kind, slide.take(kind))?;
-        }
+        let index = p.saturating_mul(64).saturating_add(offset as u64);
+        let next = put_slid(picture, grid, index, kinds[offset], slide)?;
+        slide = next;
     }
     Ok(slide)
+}
+
+// Adds the slid word with this index, if there is one. Answers the colours for the next.
+fn put_slid(
+    picture: &mut String,
+    grid: &Grid,
+    index: u64,
+    kind: Option<Kind>,
+    slide: Slide,
+) -> Result<Slide, AllocError>
+    ensures { OnOk result (Adds [] (string_bytes picture.old) (string_bytes picture.new)) }
+{
+    let mut slide = slide;
+    match kind {
+        None => Ok(slide),
+        Some(kind) => {
+            put_word(picture, grid, index, kind, slide.take(kind))?;
+            Ok(slide)
+        }
+    }
 }
 
 /// The colours after a page whose words are not drawn.

@@ -1,5 +1,8 @@
-use Rattle.std.proofs.Common.{◌-◌}
+use Rattle.std.proofs.Common.{string_bytes}
+use Rattle.heap_map.specs.Cells.{from_place, in_turn, live_object, Adds}
 use Rattle.heap_map.proofs.words.draw_from_words.Given as goal
 
-abbrev pub decreases-loop-start : goal.decreases-loop-start
-decreases-loop-start l = l.count - l.start
+-- the live objects so far have their cells
+abbrev pub invariant-loop-number : goal.invariant-loop-number
+invariant-loop-number l =
+    Adds (in_turn l.number (λ k. live_object l.grid.top l.heap (from_place l.heap k) k)) (string_bytes l.fn.picture) (string_bytes l.picture)
