@@ -64,7 +64,8 @@ AreFellows k own = (crew : Crew) × KeepsMutator crew k × KeepsMutator crew own
 abbrev pub AreMixed : Option Kept → Option Kept → Type 0
 AreMixed k own = (crew : Crew) × (other : Crew) × KeepsCrew crew k × KeepsMutator other own × (crew.name ≢ other.name)
 
--- The next heap follows a cycle of this heap: it has these roots, and exactly the objects are marked that they reach.
+-- The next heap follows some cycle of this heap: it has these roots, and exactly the objects are marked that they
+-- reach. What mutators wrote in that cycle is left open: any lawful writes will do.
 pub record IsFollowed (heap : Heap) (roots : List ℕ) (next : Heap) : Type 0 where
   pub left : Finished
   pub marks : List ℕ
@@ -76,8 +77,8 @@ pub record IsFollowed (heap : Heap) (roots : List ℕ) (next : Heap) : Type 0 wh
 abbrev pub KeepsNext : Heap → List ℕ → Option Kept → Type 0
 KeepsNext heap roots k = (next : Heap) × KeepsHeap next k × IsFollowed heap roots next
 
--- The heap was compacted twice: after each cycle exactly the objects were kept that the roots reached. The two cycles
--- are one life of a heap whose objects never move.
+-- Some two cycles lead from the heap to the last one: after each exactly the objects were kept that the roots reached.
+-- The two are one life of a heap whose objects never move.
 pub record LivesTwice (heap : Heap) (roots last_roots : List ℕ) (last : Heap) : Type 0 where
   pub between : Heap
   pub first : IsFollowed heap roots between

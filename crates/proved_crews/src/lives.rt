@@ -55,8 +55,8 @@ fn heap_in(alloc: Global, h: &mut Handle) -> Option<MarkedHeap>
     }
 }
 
-/// One cycle of a heap, by two crews of one plan: the heap with which the next cycle begins, with these roots. None if
-/// a call is refused.
+/// One cycle of a heap, by two crews of one plan: the heap with which the next cycle begins, with these roots, as some
+/// lawful cycle leaves it. None if a call is refused.
 fn cycle(alloc: Global, heap: MarkedHeap, roots: &[u64]) -> Option<MarkedHeap>
     ensures { IfSome result (IsFollowed heap roots.now) }
 {
@@ -93,9 +93,10 @@ fn cycle(alloc: Global, heap: MarkedHeap, roots: &[u64]) -> Option<MarkedHeap>
     next
 }
 
-/// Compacts a heap twice, each time by two crews of one plan. After the first cycle exactly the objects are kept that
-/// `roots` reach, and after the second those that `last_roots` reach. Answers the heap with which a third cycle begins,
-/// or `None` if a call is refused. The two cycles are one life of the heap that is handed in.
+/// Compacts a heap twice, each time by two crews of one plan. Answers the heap with which a third cycle begins. There
+/// are two lawful cycles, one after the other, that lead to it: after the first exactly the objects are kept that
+/// `roots` reach, and after the second those that `last_roots` reach, and the two are one life of the heap that is
+/// handed in. What was written in them is not said. `None` is for a refused call; no clause says when that is.
 pub fn live_twice(
     alloc: Global,
     heap: MarkedHeap,
