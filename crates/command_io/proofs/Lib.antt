@@ -6,3 +6,5 @@ pub mod Printings
 pub mod Begun
 pub mod Ended
 pub mod Makings
+pub mod LongLines
+pub mod EndedTexts

@@ -1,5 +1,5 @@
 -- What a writer of a dump, of a new image, or of a picture, took.
-use Rattle.std.proofs.Common.{◌≡◌, ℕ, List, Option, Err, length, inr, sym, subst, ◌∙◌, arith}
+use Rattle.std.proofs.Common.{◌≡◌, ℕ, List, Option, Result, Ok, Err, OnOk, length, inr, sym, subst, ◌∙◌, arith}
 use Rattle.std.proofs.KnownBytes.{Appends-kept}
 use Rattle.std.proofs.lemmas.List.{take_all}
 use Rattle.std.specs.Io.KnownBytes.{Appends, Keeps}
@@ -12,6 +12,7 @@ use Rattle.comp_dump.specs.declared.fault.DumpFault.TheVariants as dumps
 use Rattle.command_io.specs.Disk.{Disk, IsUnkept, WritesBeginning, WritesWhole}
 use Rattle.command_io.specs.FileCalls.{AfterCreating, IsOfCreating}
 use Rattle.command_io.specs.KeptFiles.{FailsFlush, KeepsAll}
+use Rattle.command_io.specs.declared.keeping.Unkept.{Unkept}
 use Rattle.command_io.specs.declared.refusal.Output.{Output}
 use Rattle.command_io.specs.declared.refusal.CommandRefusal.{CommandRefusal}
 use Rattle.command_io.specs.declared.refusal.CommandRefusal.TheVariants.{Layout, Mutator, Sweep, Trace, Dump, Audit, Moved, Survey, CannotWrite, CannotOpen, CannotCreate, ReadFailed, CannotPrint, NoSuchWord, BadMarks, OutOfMemory, BadRoots}
@@ -30,6 +31,12 @@ one_is old none = omega (arith, none)
 -- a file that cannot be created is no missing memory
 differ : (output : Output) → CannotCreate output ≡ OutOfMemory → ⊥
 differ output e = cc
+
+-- a flushed writer whose file was kept
+pub kept_all : {F W : Type 0} (disk : Disk F W) (contents : W → Option (List ℕ)) (output : Output) (path : List ℕ) (written flushed : Counted W) (to : F) (result : Result (Unit {0}) Unkept)
+    → Keeps (contents (inner_of written)) (contents (inner_of flushed)) → failures_of flushed ≡ failures_of written → OnOk result (disk.puts output path flushed to) → OnOk result (KeepsAll disk contents output path written to)
+kept_all disk contents output path written flushed to (Ok _) same none kept = record { flushed = flushed; same = same; none_failed = none; kept = kept }
+kept_all disk contents output path written flushed to (Err cause) same none kept = tt
 
 -- What some writer that a path gives took, if the count began around it. The files are `from` before, `between` once
 -- the file was begun, and `to` at the end.

@@ -7,6 +7,9 @@ pub mod Reading
 pub mod Images
 pub mod MadeFiles
 pub mod Memory
+pub mod LongLines
 pub mod Texts
 pub mod Naming
 pub mod FileCalls
+pub mod PlacedFiles
+pub mod Wording

@@ -1,7 +1,7 @@
 -- How files are named in refusals.
 use Rattle.std.specs.Prelude.{ℕ, List, codes}
 use Rattle.command_io.specs.declared.refusal.Input.{Input}
-use Rattle.command_io.specs.declared.refusal.Input.TheVariants.{Image, Trace, Dump, Marks, Roots, Moved}
+use Rattle.command_io.specs.declared.refusal.Input.TheVariants.{Image, Trace, Dump, Marks, Roots, Moved, Program}
 use Rattle.command_io.specs.declared.refusal.Output.{Output}
 use Rattle.command_io.specs.declared.refusal.Output.TheVariants as outputs
 
@@ -13,6 +13,7 @@ input_name Dump = codes "dump"
 input_name Marks = codes "marks"
 input_name Roots = codes "roots"
 input_name Moved = codes "moved"
+input_name Program = codes "program"
 
 -- the name of a file that is made
 abbrev pub output_name : Output → List ℕ

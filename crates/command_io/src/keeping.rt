@@ -9,8 +9,8 @@ use heap_layout::Counted;
 
 /// Why a file was not kept.
 #[derive(Clone, Copy, Debug, PartialEq, Eq)]
-pub(crate) enum Unkept {
-    /// The flush of its writer failed.
+pub enum Unkept {
+    /// Its writer could not be flushed, or the file not be put at its path.
     Device,
     /// An allocation failed.
     OutOfMemory,
@@ -27,10 +27,7 @@ pub(crate) fn keep_all<F: Files>(
     ensures cause { IfErr result (IsOfKeeping (F.disk files.old) F.Writer.contents written files.old files.new) }
 {
     match Flushed::of(written) {
-        Ok(flushed) => match files.keep(output, path, flushed) {
-            Ok(()) => Ok(()),
-            Err(_) => Err(Unkept::OutOfMemory),
-        },
+        Ok(flushed) => files.keep(output, path, flushed),
         Err(failed) => {
             files.give_up(failed);
             Err(Unkept::Device)

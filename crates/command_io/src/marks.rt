@@ -18,8 +18,8 @@ use std::alloc::Global;
 use std::io::Read;
 
 /// Reads the marks whose text is at a path. Refuses if the file cannot be opened or read, if a line of it is no mark,
-/// with the number of the first such line, and if memory runs out. The files count a failed call if the refusal names
-/// one; else they stay as they were.
+/// with the number of the first such line, and if memory runs out. A line of more than 1,024 bytes is no mark, and
+/// nothing is read after these. The files count a failed call if the refusal names one; else they stay as they were.
 pub fn marks_at<F: Files>(
     alloc: Global,
     files: &mut F,
@@ -34,7 +34,7 @@ pub fn marks_at<F: Files>(
     end_reading(files, reader, read)
 }
 
-// Reads marks to the end of the reader. Refuses if a call of the reader fails, if a line is no mark, with the number
+// Reads marks to the end of the reader, or to a line that is too long. Refuses if a call of the reader fails, if a line is no mark, with the number
 // of the first such line, and if memory runs out.
 fn marks_in<S: Read>(alloc: Global, r: &mut Counted<S>) -> Result<Vec<u32>, CommandRefusal>
     requires read { failures_of r.old < 2 ^ 64 - 1 }

@@ -1,10 +1,12 @@
 //! Files in memory.
-ghost use Rattle.std.specs.Prelude.{◌≡◌, ℕ, List, None, refl, option_map, OnOk, OnErr};
+ghost use Rattle.std.specs.Prelude.{◌≡◌, ℕ, List, None, refl, option_map, IfErr, OnOk, OnErr};
 ghost use Rattle.heap_layout.specs.Counted.{failures_of};
 ghost use Rattle.command_io.specs.Flushing.{counted_in};
+ghost use Rattle.command_io.specs.KeptFiles.{LeavesUnkept};
 ghost use Rattle.command_io.specs.Memory.{bytes_at, counted_after, memory_disk, put_after, HasPut, WrittenIsThere};
 
 use crate::flushed::Flushed;
+use crate::keeping::Unkept;
 use crate::opening::Files;
 use crate::refusal::{CommandRefusal, Input, Output};
 use heap_layout::Counted;
@@ -91,16 +93,14 @@ impl Files for MemoryFiles {
         Ok(Vec::new(self.alloc))
     }
 
-    fn keep(
-        &mut self,
-        _output: Output,
-        path: &str,
-        written: Flushed<Vec<u8>>,
-    ) -> Result<(), AllocError>
+    fn keep(&mut self, _output: Output, path: &str, written: Flushed<Vec<u8>>) -> Result<(), Unkept>
         ensures kept { OnOk result ((memory_disk self.old).puts _output path.now (counted_in written) self.new) }
-        ensures unkept { OnErr result (self.new ≡ self.old) }
+        ensures unkept { IfErr result (LeavesUnkept self.old self.new (failures_of (counted_in written)) (memory_disk self.old).counts) }
     {
-        self.put(path, written.into_inner())
+        match self.put(path, written.into_inner()) {
+            Ok(()) => Ok(()),
+            Err(_) => Err(Unkept::OutOfMemory),
+        }
     }
 
     fn give_up(&mut self, _written: Counted<Vec<u8>>)

@@ -1,18 +1,22 @@
 //! How the program opens the files that it reads, and creates those that it makes.
 ghost use Rattle.std.specs.Prelude.{◌≡◌, ◌≢◌, ℕ, List, refl, codes, IfOk, IfErr, OnOk, OnErr};
-ghost use Rattle.heap_layout.specs.Counted.{failures_of};
+ghost use Rattle.heap_layout.specs.Counted.{failures_of, inner_of};
 ghost use Rattle.heap_layout.specs.declared.counted.Counted.{Counted as ACounted};
 ghost use Rattle.command_io.specs.declared.refusal.Output.{Output as AnOutput};
-ghost use Rattle.command_io.specs.Counting.{counting, more_by};
+ghost use Rattle.command_io.specs.Counting.{more_by};
 ghost use Rattle.command_io.specs.Disk.{Disk, IsOfOpening};
 ghost use Rattle.command_io.specs.FileCalls.{counted_once_begun, AfterCreating, IsOfCreating, LeavesRead};
 ghost use Rattle.command_io.specs.Flushing.{counted_in};
+ghost use Rattle.command_io.specs.KeptFiles.{LeavesUnkept};
+ghost use Rattle.command_io.specs.PlacedFiles.{placing, IsPut};
 
 use crate::flushed::Flushed;
+use crate::keeping::Unkept;
 use crate::output_files::{OutputFile, create_file};
+use crate::parts::Placed;
 use crate::refusal::{CommandRefusal, Input, Output};
 use heap_layout::Counted;
-use std::alloc::{AllocError, Global};
+use std::alloc::Global;
 use std::io::{BufReader, Read, Write};
 use std::{fs, rt};
 
@@ -43,15 +47,16 @@ pub trait Files {
         ensures cause { IfErr result (IsOfCreating output ((disk self.old).bars output path.now)) };
 
     /// Keeps, at a path, all that a writer has taken that this path gave. It replaces what was there. The calls of the
-    /// writer that failed are counted. If memory runs out, the files stay as they were.
+    /// writer that failed are counted, and one more if what it took cannot be put at the path. If memory runs out, the
+    /// files stay as they were.
     fn keep(
         &mut self,
         output: Output,
         path: &str,
         written: Flushed<Self::Writer>,
-    ) -> Result<(), AllocError>
+    ) -> Result<(), Unkept>
         ensures kept { OnOk result ((disk self.old).puts output path.now (counted_in written) self.new) }
-        ensures unkept { OnErr result (self.new ≡ self.old) };
+        ensures unkept { IfErr result (LeavesUnkept self.old self.new (failures_of (counted_in written)) (disk self.old).counts) };
 
     /// Gives up a writer: nothing of what it took is kept. Its calls that failed are counted.
     fn give_up(&mut self, written: Counted<Self::Writer>)
@@ -74,19 +79,27 @@ pub trait Files {
 #[derive(Drop)]
 pub struct RuntimeFiles<'a, R> {
     rt: &'a R,
-    // How many calls failed that opened or created a file, or that read or wrote one. The count saturates.
+    // How many calls failed that opened or created a file, read or wrote one, or put it at its path. The count
+    // saturates.
     failures: u64,
+    // What was put at its path when a file was kept last, if it stood beside it.
+    latest: Option<Placed>,
 }
 
 impl<'a, R> RuntimeFiles<'a, R> {
     /// The files of this runtime, of which no call has failed yet.
     pub fn new(rt: &'a R) -> RuntimeFiles<'a, R> {
-        RuntimeFiles { rt, failures: 0 }
+        RuntimeFiles {
+            rt,
+            failures: 0,
+            latest: None,
+        }
     }
 
     // Counts failed calls.
     fn count(&mut self, failures: u64)
-        ensures { self.new.failures ≡ more_by self.old.failures failures }
+        ensures count { self.new.failures ≡ more_by self.old.failures failures }
+        ensures same { self.new.latest ≡ self.old.latest }
     {
         self.failures = self.failures.saturating_add(failures);
     }
@@ -106,11 +119,11 @@ impl<'a, R: rt::Files + AllocGlobal> Files for RuntimeFiles<'a, R> {
     type Writer = OutputFile<'a, R>;
 
     // The kit's contracts do not say which file a path leads to, nor what a file holds or takes.
-    ghost disk = { counting (λ files. files.failures) };
+    ghost disk = { placing (λ files. files.failures) (λ files. files.latest) (λ file. file.beside) };
 
     ghost contents_are = { λ _ _. refl };
 
-    ghost begun_puts = { λ from between to _ _ w. counted_once_begun (λ files. files.failures) from between to (failures_of w) };
+    ghost begun_puts = { λ from between to _ _ w begun kept. (counted_once_begun (λ files. files.failures) from between to (failures_of w) begun kept.0, kept.1) };
 
     ghost begun_counts = { counted_once_begun (λ files. files.failures) };
 
@@ -146,18 +159,27 @@ impl<'a, R: rt::Files + AllocGlobal> Files for RuntimeFiles<'a, R> {
         made
     }
 
-    // The first flush of the writer has put the file at its path.
     fn keep(
         &mut self,
         _output: Output,
         _path: &str,
         written: Flushed<OutputFile<'a, R>>,
-    ) -> Result<(), AllocError>
-        ensures kept { OnOk result (self.new.failures ≡ more_by self.old.failures (failures_of (counted_in written.entry))) }
-        ensures unkept { OnErr result (self.new ≡ self.old) }
+    ) -> Result<(), Unkept>
+        ensures kept { OnOk result ((self.new.failures ≡ more_by self.old.failures (failures_of (counted_in written.entry))) × IsPut (inner_of (counted_in written.entry)).beside self.new.latest) }
+        ensures unkept { IfErr result (LeavesUnkept self.old self.new (failures_of (counted_in written.entry)) (λ n to. to.failures ≡ more_by self.old.failures n)) }
     {
-        self.count(written.failures());
-        Ok(())
+        let failures = written.failures();
+        match written.into_inner().put() {
+            Ok(latest) => {
+                self.latest = latest;
+                self.count(failures);
+                Ok(())
+            }
+            Err(_) => {
+                self.count(failures.saturating_add(1));
+                Err(Unkept::Device)
+            }
+        }
     }
 
     fn give_up(&mut self, written: Counted<OutputFile<'a, R>>)

@@ -20,6 +20,8 @@ pub enum Input {
     Marks,
     Roots,
     Moved,
+    /// The program's own file.
+    Program,
 }
 
 impl fmt::Display for Input {
@@ -35,6 +37,7 @@ impl fmt::Display for Input {
             Input::Marks => "marks",
             Input::Roots => "roots",
             Input::Moved => "moved",
+            Input::Program => "program",
         })
     }
 }

@@ -18,8 +18,9 @@ use std::alloc::Global;
 use std::io::Read;
 
 /// Reads the trace whose text is at a path, for these numbers of mutators and shared roots. Refuses if the file cannot
-/// be opened or read, if its text is no such trace, with its first fault, and if memory runs out. The files count a
-/// failed call if the refusal names one; else they stay as they were.
+/// be opened or read, if its text is no such trace, with its first fault, and if memory runs out. A line of more than
+/// 1,024 bytes is a bad one, and nothing is read after these. The files count a failed call if the refusal names one;
+/// else they stay as they were.
 pub fn trace_at<F: Files>(
     alloc: Global,
     files: &mut F,
@@ -37,7 +38,7 @@ pub fn trace_at<F: Files>(
     end_reading(files, reader, read)
 }
 
-// Reads a trace to the end of the reader, for these numbers of mutators and shared roots.
+// Reads a trace to the end of the reader, or to a line that is too long, for these numbers of mutators and shared roots.
 fn trace_in<S: Read>(
     alloc: Global,
     r: &mut Counted<S>,

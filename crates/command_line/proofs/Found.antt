@@ -18,7 +18,7 @@ use Rattle.clap.specs.declared.parser.matches.ArgMatches.TheViews.{out-ArgMatche
 use Rattle.clap.specs.declared.parser.matches.Found.{Found}
 use Rattle.clap.specs.Walk.{row_text, with_default}
 use Rattle.clap.proofs.WalkLemmas.{both, first_value-rows, one_text-rows}
-use Rattle.command_line.specs.AskedTasks.{Asks, AsksWith, AsksHelp, AsksNoCommand, AsksVersion, HasLawfulCounts, IsRunGiven, IsText}
+use Rattle.command_line.specs.AskedTasks.{Asks, AsksWith, AsksHelp, AsksNoCommand, AsksVersion, HasLawfulCounts, is_long, IsRunGiven, IsText}
 use Rattle.command_line.specs.Forms.{Choice, Form, Parameter, command_form, fresh, mutators, named, number_within, run_form, workers_form, word_form, workers}
 use Rattle.command_line.specs.Given.{HasOption, HasSwitch, IsChosen, IsCommandWith, IsNumber, IsNumberOr, Takes, Use, is_among, text_given}
 use Rattle.command_line.specs.ParserFinds.{IsAnswerOf, IsFlag, IsRunFound, IsRunRequest}
@@ -332,15 +332,15 @@ module _ (r : Bool) (words : List (List ℕ)) (says : r ≡ says_reachable words
   help_asked here = (faulty r words says (some_kind DisplayHelp (fault_of (program forms) words) here), helped forms (standing_program r) words utf8 here)
 
   -- and the version only if they ask for nothing, and the first word is for the version
-  version_asked : IsAmong DisplayVersion (fault_of (program forms) words) → AsksVersion words
-  version_asked here = (faulty r words says (some_kind DisplayVersion (fault_of (program forms) words) here), versioned forms (standing_program r) words utf8 here)
+  version_asked : IsAmong DisplayVersion (fault_of (program forms) words) → is_long words ≡ false → AsksVersion words
+  version_asked here others = (faulty r words says (some_kind DisplayVersion (fault_of (program forms) words) here), versioned forms (standing_program r) words utf8 here, others)
 
   -- a text of help, and the version, is what the words ask
-  pub answer_reported : (error : Error) (r : Result Task Error) → HasKind (fault_of (program forms) words) error → IfOk r (IsAnswerOf (kind_of error)) → IfOk r (Asks words)
-  answer_reported error (Ok (Help text)) kind answer = help_asked (among_kinds _ error DisplayHelp kind answer (λ e. cc))
-  answer_reported error (Ok Version) kind answer = version_asked (among_kinds _ error DisplayVersion kind answer (λ e. cc))
-  answer_reported error (Ok command) kind answer = absurd answer
-  answer_reported error (Err reported) kind answer = _
+  pub answer_reported : (error : Error) (r : Result Task Error) → HasKind (fault_of (program forms) words) error → IfOk r (IsAnswerOf (kind_of error)) → is_long words ≡ false → IfOk r (Asks words)
+  answer_reported error (Ok (Help text)) kind answer others = help_asked (among_kinds _ error DisplayHelp kind answer (λ e. cc))
+  answer_reported error (Ok Version) kind answer others = version_asked (among_kinds _ error DisplayVersion kind answer (λ e. cc)) others
+  answer_reported error (Ok command) kind answer others = absurd answer
+  answer_reported error (Err reported) kind answer others = _
 
   -- and an error other than out of memory comes only if they have a fault
   pub error_reported : (error : Error) (r : Result Task Error) → HasKind (fault_of (program forms) words) error

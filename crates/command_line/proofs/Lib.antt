@@ -20,3 +20,4 @@ pub mod AuditFound
 pub mod MapFound
 pub mod NextFound
 pub mod RunCounts
+pub mod LongVersion

@@ -9,7 +9,7 @@ use Rattle.command_line.specs.Given.{IsCommandWith, Use}
 use Rattle.command_line.specs.NextArguments.{says_reachable}
 use Rattle.command_line.specs.Parser.{program, standing}
 use Rattle.command_line.specs.declared.words.Task.{Task}
-use Rattle.command_line.specs.declared.words.Task.TheVariants.{Plan, Word, Replay, Race, Compact, Audit, Next, Mark, Collect, Moved, Map, Help, Version}
+use Rattle.command_line.specs.declared.words.Task.TheVariants.{Plan, Word, Replay, Race, Compact, Audit, Next, Mark, Collect, Moved, Map, Help, Version, VersionLong}
 use Rattle.command_line.proofs.Chosen.{texts_used}
 use Rattle.command_line.proofs.FormLevel.{FormTaken, form_help, form_no_version, form_taken, form_takes}
 use Rattle.command_line.proofs.Levels.{level, shape}
@@ -101,6 +101,7 @@ asked_form r words says (Moved image moved b) asks = (moved_form, standing_moved
 asked_form r words says (Map run) asks = (map_form, standing_map r, asks.uses, asks.is_command)
 asked_form r words says (Help text) asks = absurd asks
 asked_form r words says Version asks = absurd asks
+asked_form r words says VersionLong asks = absurd asks
 
 module _ (forms : List Form) (program_is : IsProgram forms) (words : List Text) where
   -- words that clap takes are a command

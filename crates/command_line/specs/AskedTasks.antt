@@ -1,5 +1,5 @@
 -- What the words of the command line ask for. The program's name is not among them.
-use Rattle.std.specs.Prelude.{◌≡◌, ℕ, ◌≤◌, ◌||◌, Bool, true, false, List, ◌∷◌, Some, None, IsSomeAnd, take, codes, option_map}
+use Rattle.std.specs.Prelude.{◌≡◌, ℕ, ◌≤◌, ◌&&◌, ◌||◌, Bool, true, false, List, [], ◌∷◌, Some, None, IsSomeAnd, take, codes, option_map}
 use Rattle.std.specs.List.{Any}
 use Rattle.std.specs.Str.{bytes_eq}
 use Rattle.command_line.specs.Forms.{Form, audit_form, fresh, map_form, moved_form, mutators, next_form, plan_form, run_form, workers_form, word_form, workers}
@@ -8,7 +8,7 @@ use Rattle.command_line.specs.declared.next.NextMarks.{NextMarks}
 use Rattle.command_line.specs.declared.next.NextMarks.TheVariants.{Given, Reachable, ReachableFrom}
 use Rattle.command_line.specs.declared.next.NextRun.{NextRun}
 use Rattle.command_line.specs.declared.words.Task.{Task}
-use Rattle.command_line.specs.declared.words.Task.TheVariants.{Plan, Word, Replay, Race, Compact, Audit, Next, Mark, Collect, Moved, Map, Help, Version}
+use Rattle.command_line.specs.declared.words.Task.TheVariants.{Plan, Word, Replay, Race, Compact, Audit, Next, Mark, Collect, Moved, Map, Help, Version, VersionLong}
 use Rattle.command_line.specs.declared.words.TraceRun.{TraceRun}
 
 -- the words are the command of this form, with this path of an image, with `--large` or without it, and this holds of
@@ -87,14 +87,25 @@ AsksHelp words = AsksNoCommand words × Any (λ word. is_help word ≡ true) wor
 abbrev pub is_version : List ℕ → Bool
 is_version word = bytes_eq word (codes "--version") || bytes_eq (take 2 word) (codes "-V")
 
--- the words are no command, and the first of them asks for the version
+-- `--version --long`, and no other word
+abbrev pub is_long : List (List ℕ) → Bool
+is_long (first ∷ second ∷ []) = bytes_eq first (codes "--version") && bytes_eq second (codes "--long")
+is_long _ = false
+
+-- the words are no command, and the first of them asks for the version; they do not ask for the long one
 abbrev pub AsksVersion : List (List ℕ) → Type 0
-AsksVersion words = AsksNoCommand words × ((word : List ℕ) × (rest : List (List ℕ)) × (words ≡ word ∷ rest) × (is_version word ≡ true))
+AsksVersion words =
+    AsksNoCommand words × ((word : List ℕ) × (rest : List (List ℕ)) × (words ≡ word ∷ rest) × (is_version word ≡ true)) × (is_long words ≡ false)
+
+-- the words are no command, and ask for the long version
+abbrev pub AsksVersionLong : List (List ℕ) → Type 0
+AsksVersionLong words = AsksNoCommand words × (is_long words ≡ true)
 
 -- the words ask for this task
 abbrev pub Asks : List (List ℕ) → Task → Type 0
 Asks words (Help text) = AsksHelp words
 Asks words Version = AsksVersion words
+Asks words VersionLong = AsksVersionLong words
 Asks words task = AsksCommand words task
 
 -- 1 to 64 mutators or workers

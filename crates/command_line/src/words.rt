@@ -1,9 +1,9 @@
 //! The words of the command line.
-ghost use Rattle.std.specs.Prelude.{◌≡◌, ◌≢◌, ◌≤◌, ◌⊎◌, [], codes, true, map, IfOk, IfErr};
+ghost use Rattle.std.specs.Prelude.{◌≡◌, ◌≢◌, ◌≤◌, ◌⊎◌, [], codes, true, false, map, IfOk, IfErr};
 ghost use Rattle.std.specs.String.{string_bytes};
 ghost use Rattle.clap.specs.Words.{app_of, fault_of, found_of, kind_of, subcommand_of, subcommand_rows_of, with_subcommand, App};
 ghost use Rattle.clap.specs.declared.error.kind.ErrorKind.TheVariants.{DisplayHelp, DisplayVersion, OutOfMemory};
-ghost use Rattle.command_line.specs.AskedTasks.{Asks, AsksNoCommand, HasLawfulCounts, IsCount};
+ghost use Rattle.command_line.specs.AskedTasks.{Asks, AsksNoCommand, HasLawfulCounts, IsCount, is_long};
 ghost use Rattle.command_line.specs.Forms.{moved_form, plan_form, run_form, workers_form, word_form};
 ghost use Rattle.command_line.specs.ParserFinds.{IsAnswerOf, IsRunFound, IsRunRequest};
 ghost use Rattle.command_line.specs.NextArguments.{says_reachable};
@@ -88,6 +88,8 @@ pub enum Task<'a> {
     },
     /// Print the version of the program.
     Version,
+    /// Print the version of the program, of what it was made, and what proved it.
+    VersionLong,
 }
 
 /// The arguments of `replay` and `race`.
@@ -116,6 +118,32 @@ const VERSION: &str = "1.0.0";
 /// Reads the words after the program's name, and answers the task that they ask for. It fails if they ask for none, or
 /// if memory runs out.
 pub fn read_task<'a>(alloc: Global, words: &'a [String]) -> Result<Task<'a>, Error>
+    ensures asked { IfOk result (Asks (map string_bytes words.entry.now)) }
+    ensures none { IfErr result (λ error. kind_of error ≢ OutOfMemory → AsksNoCommand (map string_bytes words.entry.now)) }
+    ensures counts { IfOk result HasLawfulCounts }
+    ensures no_help { IfErr result (λ error. kind_of error ≢ DisplayHelp) }
+    ensures no_version { IfErr result (λ error. kind_of error ≢ DisplayVersion) }
+{
+    if asks_long(words) {
+        Ok(Task::VersionLong)
+    } else {
+        parsed_task(alloc, words)
+    }
+}
+
+// Whether the words are `--version --long`. clap has no answer for them.
+fn asks_long(words: &[String]) -> bool
+    ensures { result ≡ is_long (map string_bytes words.now) }
+{
+    match words {
+        [first, second] => first.as_str() == "--version" && second.as_str() == "--long",
+        _ => false,
+    }
+}
+
+// The same of other words.
+fn parsed_task<'a>(alloc: Global, words: &'a [String]) -> Result<Task<'a>, Error>
+    requires others { is_long (map string_bytes words.now) ≡ false }
     ensures asked { IfOk result (Asks (map string_bytes words.entry.now)) }
     ensures none { IfErr result (λ error. kind_of error ≢ OutOfMemory → AsksNoCommand (map string_bytes words.entry.now)) }
     ensures counts { IfOk result HasLawfulCounts }

@@ -146,6 +146,8 @@ module _ (outcome : Outcome) (is : outcome.refusal ≡ Some CannotPrint) where
   no_outcome disk (tasks.Map asked) h = of_map disk asked.large asked.image.now (option_map (λ path. path.now) asked.dump) h
   no_outcome disk (tasks.Help text) same = not_prints _ same
   no_outcome disk tasks.Version same = not_prints _ same
+  no_outcome disk tasks.VersionLong (bytes, at, inl (text, told, same)) = not_prints _ same
+  no_outcome disk tasks.VersionLong (bytes, at, inr same) = other_memory _ same
 
 -- ---- nor is it why files were not read
 
@@ -195,6 +197,8 @@ no_input disk (tasks.Moved image path large) (inr (heap, at, inr (known, there, 
 no_input disk (tasks.Map asked) h = no_map disk asked.large asked.image.now (option_map (λ path. path.now) asked.dump) h
 no_input disk (tasks.Help text) h = h
 no_input disk tasks.Version h = h
+no_input disk tasks.VersionLong (inl h) = h
+no_input disk tasks.VersionLong (inr (known, there, h)) = h
 
 -- nor why a file was not made
 no_unwritten : (output : Output) → CannotPrint ≡ unwritten output → ⊥

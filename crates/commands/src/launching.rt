@@ -1,9 +1,13 @@
 //! How a run begins: the words that the machine gives, and what is printed if it cannot begin.
-ghost use Rattle.std.specs.Prelude.{◌≡◌, ◌≢◌};
+ghost use Rattle.std.specs.Prelude.{◌≡◌, ◌≢◌, ◌-◌, ◌^◌, ◌<◌};
+ghost use Rattle.heap_layout.specs.Counted.{inner_of, failures_of};
+ghost use Rattle.command_io.specs.declared.refusal.CommandRefusal.TheVariants as refusals;
+ghost use Rattle.commands.specs.Tasks.{Says};
 ghost use Rattle.std.specs.declared.io.ErrorKind.TheVariants as kinds;
 
-use crate::running::{MISUSED, reported};
-use command_io::CommandRefusal;
+use crate::running::{MISUSED, REFUSED, say};
+use command_io::{CommandRefusal, flush, print_text};
+use heap_layout::Counted;
 use std::env;
 use std::io::{ErrorKind, Result as IoResult, Write};
 use std::rt::Env;
@@ -18,15 +22,20 @@ pub fn fetch_words<R: Env + AllocGlobal>(rt: &R) -> IoResult<Vec<String>> {
 }
 
 /// Prints on `err` why a run could not begin, by the kind of the error, and answers the status. Out of memory is a
-/// refusal; any other kind is that of a word that is not UTF-8.
-pub fn report_unstarted<E: Write>(kind: ErrorKind, err: &mut E) -> u8
+/// refusal, whose line is printed; any other kind is that of a word that is not UTF-8. If a call of `err` fails, a
+/// beginning was printed, and the call is counted. Fewer than `u64::MAX` calls of it must have failed before.
+pub fn report_unstarted<E: Write>(kind: ErrorKind, err: &mut Counted<&mut E>) -> u8
+    requires written { failures_of err.old < 2 ^ 64 - 1 }
     ensures refused { kind ≡ kinds.OutOfMemory → result ≡ 1 }
+    ensures said { kind ≡ kinds.OutOfMemory → Says (failures_of err.old) (failures_of err.new) (E.contents (inner_of err.old).now) (E.contents (inner_of err.new).now) refusals.OutOfMemory }
     ensures misused { kind ≢ kinds.OutOfMemory → result ≡ 2 }
 {
     if kind == ErrorKind::OutOfMemory {
-        return reported(Err(CommandRefusal::OutOfMemory), err);
+        say(CommandRefusal::OutOfMemory, err);
+        return REFUSED;
     }
-    let _ = err.write_all(NO_TEXT.as_bytes());
-    let _ = err.flush();
+    if let Ok(()) = print_text(NO_TEXT, err) {
+        let _ = flush(err);
+    }
     MISUSED
 }

@@ -11,6 +11,7 @@ use crate::audit::audit_at;
 use crate::collect::collect_at;
 use crate::compact::compact_at;
 use crate::delivering::deliver;
+use crate::long_version::long_version;
 use crate::mapping::map_at;
 use crate::mark::mark_at;
 use crate::moved::moves_at;
@@ -69,7 +70,8 @@ fn path_of<'a>(task: &Task<'a>) -> &'a str
         | Task::Audit(_)
         | Task::Moved { .. }
         | Task::Help { .. }
-        | Task::Version => "",
+        | Task::Version
+        | Task::VersionLong => "",
     }
 }
 
@@ -120,5 +122,6 @@ fn answer_of<R: Threads + Wait + Sync, F: Files>(
         Task::Map(run) => map_at(alloc, rt, files, &run),
         Task::Help { text } => Ok(Answer::Help(text)),
         Task::Version => Ok(Answer::Version),
+        Task::VersionLong => long_version(alloc, files),
     }
 }

@@ -1,18 +1,19 @@
 //! Runs the program: reads its words, does what they ask for, and answers a status.
-ghost use Rattle.std.specs.Prelude.{◌≡◌, ◌≢◌, ◌-◌, ◌^◌, ◌<◌, ◌≤◌, true, map, IfErr, OnOk, OnErr};
+ghost use Rattle.std.specs.Prelude.{◌≡◌, ◌≢◌, ◌-◌, ◌^◌, ◌<◌, ◌≤◌, true, map, IfErr, OnOk};
 ghost use Rattle.std.specs.String.{string_bytes};
 ghost use Rattle.std.specs.Io.KnownBytes.{Keeps};
 ghost use Rattle.clap.specs.Words.{kind_of};
 ghost use Rattle.clap.specs.declared.error.kind.ErrorKind.TheVariants as kind;
 ghost use Rattle.heap_layout.specs.Counted.{inner_of, failures_of, is_flushed_of, writer_of};
 ghost use Rattle.command_line.specs.AskedTasks.{AsksNoCommand};
+ghost use Rattle.command_io.specs.declared.refusal.CommandRefusal.{CommandRefusal as ARefusal};
 ghost use Rattle.command_io.specs.declared.refusal.CommandRefusal.TheVariants.{OutOfMemory};
-ghost use Rattle.commands.specs.Tasks.{status_of, DoesAsked, HasAnswered, IsUnanswered, LeavesSent};
+ghost use Rattle.commands.specs.Tasks.{status_of, DoesAsked, HasAnswered, IsReason, IsUnanswered, LeavesSent, Reports, Says};
 ghost use Rattle.commands.specs.declared.running.Unanswered.TheVariants.{Misused, Refused};
 
 use crate::performing::perform;
 use clap::error::ErrorKind;
-use command_io::{CommandRefusal, Files, RuntimeFiles};
+use command_io::{CommandRefusal, Files, RuntimeFiles, flush, print_refusal};
 use command_line::read_task;
 use heap_layout::Counted;
 use std::alloc::Global;
@@ -31,19 +32,23 @@ pub const REFUSED: u8 = 1;
 pub const MISUSED: u8 = 2;
 
 /// Does what the words after the program's name ask for, and answers the status: `DONE`, `REFUSED` or `MISUSED`. It
-/// opens files and starts threads through `rt`, and flushes `out` at the end. A refusal prints one line on `err`; so
-/// does a call of `out` that fails. If the words ask for nothing that the program does, it prints on `err` what is
-/// wrong with them, and nothing on `out`.
+/// opens files and starts threads through `rt`, and flushes `out` at the end. A refusal prints its line on `err`; so
+/// does a call of `out` that fails. If a call of `err` fails, a beginning of the line was printed, and the call is
+/// counted. If the words ask for nothing that the program does, it prints on `err` what is wrong with them, and nothing
+/// on `out`. Fewer than `u64::MAX` calls of `err` must have failed before.
 pub fn run<R: rt::Files + AllocGlobal + Threads + Wait + Sync, O: Write, E: Write>(
     rt: &R,
     words: Vec<String>,
     out: &mut O,
-    err: &mut E,
+    err: &mut Counted<&mut E>,
 ) -> u8
+    requires written { failures_of err.old < 2 ^ 64 - 1 }
     ensures status { result ≤ 2 }
     ensures done { result ≡ 0 → HasAnswered (map string_bytes words.items) (O.contents out.old) (O.contents out.new) }
     ensures wrong { result ≡ 2 → AsksNoCommand (map string_bytes words.items) }
     ensures misused { result ≡ 2 → Keeps (O.contents out.old) (O.contents out.new) }
+    ensures refused { result ≡ 1 → (refusal : ARefusal) × IsReason (map string_bytes words.items) (O.contents out.old) (O.contents out.new) refusal
+        × Says (failures_of err.old) (failures_of err.new) (E.contents (inner_of err.old).now) (E.contents (inner_of err.new).now) refusal }
 {
     let mut out = Counted::new(out);
     let answered = answer(rt.alloc(), rt, &mut RuntimeFiles::new(rt), &words, &mut out);
@@ -99,13 +104,18 @@ fn unread(error: clap::Error) -> Unanswered
     }
 }
 
-// The status of an answer. A refusal prints one line on `err`; if the words are wrong, it prints the parser's report.
-fn respond<E: Write>(answered: Result<(), Unanswered>, err: &mut E) -> u8
-    ensures { result ≡ status_of answered }
+// The status of an answer. A refusal prints its line on `err`; if the words are wrong, it prints the parser's report.
+fn respond<E: Write>(answered: Result<(), Unanswered>, err: &mut Counted<&mut E>) -> u8
+    requires written { failures_of err.old < 2 ^ 64 - 1 }
+    ensures status { result ≡ status_of answered }
+    ensures said { IfErr answered (Reports (failures_of err.old) (failures_of err.new) (E.contents (inner_of err.old).now) (E.contents (inner_of err.new).now)) }
 {
     match answered {
         Ok(()) => DONE,
-        Err(Unanswered::Refused(refusal)) => reported(Err(refusal), err),
+        Err(Unanswered::Refused(refusal)) => {
+            say(refusal, err);
+            REFUSED
+        }
         Err(Unanswered::Misused(error)) => {
             let _ = write!(err, "{error}");
             MISUSED
@@ -113,17 +123,12 @@ fn respond<E: Write>(answered: Result<(), Unanswered>, err: &mut E) -> u8
     }
 }
 
-// The status of a task. Prints a refusal on `err`; if that fails, nothing more is done.
-pub(crate) fn reported<E: Write>(outcome: Result<(), CommandRefusal>, err: &mut E) -> u8
-    ensures done { OnOk outcome (result ≡ 0) }
-    ensures refused { OnErr outcome (result ≡ 1) }
+// Prints the line of a refusal on `err`, and flushes it. If that fails, nothing more is done.
+pub(crate) fn say<E: Write>(refusal: CommandRefusal, err: &mut Counted<&mut E>)
+    requires written { failures_of err.old < 2 ^ 64 - 1 }
+    ensures { Says (failures_of err.old) (failures_of err.new) (E.contents (inner_of err.old).now) (E.contents (inner_of err.new).now) refusal }
 {
-    match outcome {
-        Ok(()) => DONE,
-        Err(refusal) => {
-            let _ = writeln!(err, "compressor: {refusal}");
-            let _ = err.flush();
-            REFUSED
-        }
+    if let Ok(()) = print_refusal(refusal, err) {
+        let _ = flush(err);
     }
 }

@@ -2,7 +2,7 @@
 use Rattle.std.proofs.Common.{◌≡◌, ℕ, List, [], ◌∷◌, Option, arith, subst}
 use Rattle.command_line.specs.AskedTasks.{Asks}
 use Rattle.command_line.specs.declared.words.Task.{Task}
-use Rattle.command_line.specs.declared.words.Task.TheVariants.{Plan, Word, Replay, Race, Compact, Audit, Next, Mark, Collect, Moved, Map, Help, Version}
+use Rattle.command_line.specs.declared.words.Task.TheVariants.{Plan, Word, Replay, Race, Compact, Audit, Next, Mark, Collect, Moved, Map, Help, Version, VersionLong}
 use Rattle.commands.specs.Tasks.{HasAnswered}
 
 -- an empty list begins with no element
@@ -23,7 +23,8 @@ unasked (Collect image new n large) asks = not_empty asks.is_command.begin
 unasked (Moved image moved large) asks = not_empty asks.is_command.begin
 unasked (Map run) asks = not_empty asks.is_command.begin
 unasked (Help text) (none, (i, word, lt, at, is)) = omega (arith, lt)
-unasked Version (none, (word, rest, same, first)) = not_empty same
+unasked Version (none, (word, rest, same, first), short) = not_empty same
+unasked VersionLong (none, long) = cc
 
 -- so nothing is answered to a list of words that is empty
 pub unanswered_if_empty : (words : List (List ℕ)) (before after : Option (List ℕ)) → words ≡ [] → HasAnswered words before after → ⊥

@@ -1,8 +1,10 @@
 //! What the program answers if it is asked for nothing.
-ghost use Rattle.std.specs.Prelude.{◌≡◌, ◌≢◌};
+ghost use Rattle.std.specs.Prelude.{◌≡◌, ◌≢◌, ◌-◌, ◌^◌, ◌<◌};
 ghost use Rattle.std.specs.Io.KnownBytes.{Keeps};
+ghost use Rattle.heap_layout.specs.Counted.{failures_of};
 
 use commands::run;
+use heap_layout::Counted;
 use std::io::Write;
 use std::rt;
 use std::sync::Wait;
@@ -13,8 +15,9 @@ use std::thread::Threads;
 pub fn run_no_words<R: rt::Files + AllocGlobal + Threads + Wait + Sync, O: Write, E: Write>(
     rt: &R,
     out: &mut O,
-    err: &mut E,
+    err: &mut Counted<&mut E>,
 ) -> u8
+    requires { failures_of err.old < 2 ^ 64 - 1 }
     ensures undone { result ≢ 0 }
     ensures kept { result ≡ 2 → Keeps (O.contents out.old) (O.contents out.new) }
 {

@@ -58,7 +58,7 @@ fn expect_tasks(rt: &(impl Abort + AllocGlobal), asked: &[AskedTask]) {
 }
 
 // Lines and the tasks that they ask for.
-static TASKS: [AskedTask; 60] = [
+static TASKS: [AskedTask; 62] = [
     (
         "plan three.img",
         "Plan { image: \"three.img\", large: false }",
@@ -71,6 +71,14 @@ static TASKS: [AskedTask; 60] = [
     (
         "word three.img +02 --",
         "Word { image: \"three.img\", index: 2, large: false }",
+    ),
+    (
+        "word three.img 0002",
+        "Word { image: \"three.img\", index: 2, large: false }",
+    ),
+    (
+        "word three.img +018446744073709551615",
+        "Word { image: \"three.img\", index: 18446744073709551615, large: false }",
     ),
     (
         "word -- -x.img 18446744073709551615",
@@ -354,11 +362,16 @@ fn both_forms_of_next_are_shown(rt: HostRuntime) {
 }
 
 // Lines that ask for the version.
-static VERSIONS: [AskedTask; 4] = [
+static VERSIONS: [AskedTask; 8] = [
     ("--version", "Version"),
     ("-V", "Version"),
     ("-Vh", "Version"),
     ("--version plan", "Version"),
+    // Two words alone, and exactly these, ask for the long one.
+    ("--version --long", "VersionLong"),
+    ("-V --long", "Version"),
+    ("--version --long --long", "Version"),
+    ("--version --longer", "Version"),
 ];
 
 #[test]

@@ -1,5 +1,6 @@
 //! How runs begin: the words of a machine in memory, and the report if they cannot be had.
 use commands::{fetch_words, report_unstarted};
+use heap_layout::Counted;
 use std::env::FillError;
 use std::io::ErrorKind;
 use std::process::Abort;
@@ -54,7 +55,7 @@ fn expect_given(rt: &(impl Abort + AllocGlobal), words: &[&[u8]], wanted: Result
 // Checks the status and the text that a kind of error ends with.
 fn expect_report(rt: &(impl Abort + AllocGlobal), kind: ErrorKind, status: u8, text: &str) {
     let mut err = Vec::new(rt.alloc());
-    let found = report_unstarted(kind, &mut err);
+    let found = report_unstarted(kind, &mut Counted::new(&mut err));
     assert_eq!(rt; found, status, "{text}");
     assert_eq!(rt; err.as_slice(), text.as_bytes(), "{text}");
 }

@@ -2,7 +2,7 @@
 use crate::asked_tasks::{Answer, expect_lines};
 
 // Lines that are no command.
-static NO_COMMANDS: [&str; 105] = [
+static NO_COMMANDS: [&str; 112] = [
     "plan --large",
     "plan --large --large a",
     "audit --large=1 a b",
@@ -14,6 +14,8 @@ static NO_COMMANDS: [&str; 105] = [
     "help sweep",
     "version",
     "--version=1",
+    "--long",
+    "--long --version",
     "word --version",
     "plan -V",
     "plan",
@@ -21,6 +23,11 @@ static NO_COMMANDS: [&str; 105] = [
     "plan --image three.img",
     "word three.img",
     "word three.img x",
+    "word three.img +",
+    "word three.img ++2",
+    "word three.img 0x2",
+    "word three.img 1_000",
+    "word three.img 2.0",
     "word three.img -1",
     "word three.img -- -2",
     "word three.img 18446744073709551616",

@@ -1,5 +1,6 @@
 //! Runs whose output takes a limited number of bytes, three bytes at a time.
 use commands::run;
+use heap_layout::Counted;
 use std::rt::Files;
 use std::sync::Wait;
 use std::test::Fail;
@@ -39,7 +40,7 @@ fn expect_narrow<R: Files + AllocGlobal + Threads + Wait + Sync>(
         failure,
     };
     let words = words_of(rt.alloc(), line)?;
-    let status = run(rt, words, &mut out, &mut err);
+    let status = run(rt, words, &mut out, &mut Counted::new(&mut err));
     expect_ran(&wanted_of(line, refusal), status, &[], &err)
 }
 

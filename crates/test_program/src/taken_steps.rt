@@ -1,5 +1,6 @@
 //! Runs of the program on the words of a line, and tests that are lists of steps.
 use commands::run;
+use heap_layout::Counted;
 use std::rt::Files;
 use std::sync::Wait;
 use std::test::Fail;
@@ -14,7 +15,7 @@ fn expect_run<R: Files + AllocGlobal + Threads + Wait + Sync>(
     let mut out = Vec::new(rt.alloc());
     let mut err = Vec::new(rt.alloc());
     let words = words_of(rt.alloc(), wanted.line)?;
-    let status = run(rt, words, &mut out, &mut err);
+    let status = run(rt, words, &mut out, &mut Counted::new(&mut err));
     expect_ran(wanted, status, &out, &err)
 }
 

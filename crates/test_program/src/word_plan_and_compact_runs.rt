@@ -61,6 +61,11 @@ pub const RUNS: &[Step] = &[
     Step::Prints("-V", "compressor 1.0.0\n"),
     Step::Prints("-Vx", "compressor 1.0.0\n"),
     Step::Prints("--version word", "compressor 1.0.0\n"),
+    // Nothing stands behind the file of a test.
+    Step::Prints(
+        "--version --long",
+        "compressor 1.0.0\nnot packed: nothing here says what it was proved by\n",
+    ),
     // Compactions of small heaps, the first one over a longer file; and a dump that cannot be created.
     Step::Write("none.tests.img", Content::EmptyImage),
     Step::Write("one.tests.img", Content::ThreeImage),

@@ -15,6 +15,7 @@ complete -c compressor -n $bare -a moved -d 'Judge a moving collection'
 complete -c compressor -n $bare -a map -d 'Draw a heap before and after'
 complete -c compressor -n $bare -a help -d 'Print help'
 complete -c compressor -n $bare -s V -l version -d 'Print the version'
+complete -c compressor -n '__fish_prev_arg_in --version' -l long -d 'What proved it too'
 complete -c compressor -s h -l help -d 'Print help'
 complete -c compressor -n '__fish_seen_subcommand_from help' -f -a "$commands help"
 complete -c compressor -n "__fish_seen_subcommand_from $commands" -l large -d 'Also read editions three and four'

@@ -1,7 +1,7 @@
 use Rattle.command_line.proofs.Found.{answer_counts, answer_reported, error_reported, found_at, kind_at, none_reported, taken_at, texts_utf8}
 use Rattle.command_line.proofs.TopLevel.{standing_program}
 use Rattle.command_line.specs.Parser.{standing}
-use Rattle.command_line.proofs.words.read_task.Goals as goal
+use Rattle.command_line.proofs.words.parsed_task.Goals as goal
 
 pub task_of-requires-clause-taken : goal.task_of-requires-clause-taken
 task_of-requires-clause-taken c = taken_at (standing c.says_reachable-reaches.result) (standing_program c.says_reachable-reaches.result) _ _ c.in_ok-command.ensures c.in-Ok.ensures.kinds
@@ -11,7 +11,7 @@ task_of-requires-clause-found c = found_at (standing c.says_reachable-reaches.re
 
 pub returns-in-Err-clause-asked : goal.returns-in-Err-clause-asked
 returns-in-Err-clause-asked c = answer_reported c.says_reachable-reaches.result _ c.says_reachable-reaches.ensures (texts_utf8 c.args.words.now) c.in-Err.error c.answer_task.result
-    (kind_at (standing c.says_reachable-reaches.result) (standing_program c.says_reachable-reaches.result) _ _ c.in-Err.error c.in_ok-command.ensures c.in-Err.ensures.kinds) c.answer_task.ensures.answer
+    (kind_at (standing c.says_reachable-reaches.result) (standing_program c.says_reachable-reaches.result) _ _ c.in-Err.error c.in_ok-command.ensures c.in-Err.ensures.kinds) c.answer_task.ensures.answer c.requires.others
 
 pub returns-in-Err-clause-none : goal.returns-in-Err-clause-none
 returns-in-Err-clause-none c = none_reported _ c.says_reachable-reaches.result c.says_reachable-reaches.ensures c.answer_task.result (error_reported c.says_reachable-reaches.result _ c.says_reachable-reaches.ensures (texts_utf8 c.args.words.now) c.in-Err.error c.answer_task.result
