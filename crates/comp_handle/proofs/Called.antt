@@ -7,7 +7,7 @@ use Rattle.comp_handle.specs.HandleKinds.{mutator_in, Asks}
 use Rattle.comp_handle.specs.Seeing.{CopiesSeen, SeesBy}
 use Rattle.comp_handle.specs.declared.answer.Answer.{Answer}
 use Rattle.comp_handle.specs.declared.kept.Kept.{Kept}
-use Rattle.comp_handle.specs.declared.kept.Kept.TheVariants.{Nothing, Heap, Plan, Crew, Mutator, Ended, Survey, Tables, Job, Pages, Looks}
+use Rattle.comp_handle.specs.declared.kept.Kept.TheVariants.{Nothing, Heap, Plan, Crew, Mutator, Ended, Survey, Tables, Job, Pages, Looks, Marking, Lane}
 
 module _ (Q : Member → Answer → Type 0) (R : Type 0) (old : Option Kept) (a : Answer) where
   -- it has a mutator
@@ -27,6 +27,8 @@ module _ (Q : Member → Answer → Type 0) (R : Type 0) (old : Option Kept) (a 
   not_asked (Job job) never e g r = subst (λ (o : Option Kept). Asks 0 mutator_in Q R o a) (sym e) (g, r)
   not_asked (Pages pages) never e g r = subst (λ (o : Option Kept). Asks 0 mutator_in Q R o a) (sym e) (g, r)
   not_asked (Looks looks) never e g r = subst (λ (o : Option Kept). Asks 0 mutator_in Q R o a) (sym e) (g, r)
+  not_asked (Marking marker) never e g r = subst (λ (o : Option Kept). Asks 0 mutator_in Q R o a) (sym e) (g, r)
+  not_asked (Lane lane) never e g r = subst (λ (o : Option Kept). Asks 0 mutator_in Q R o a) (sym e) (g, r)
 
 module _ (P : Member → Member → Answer → Type 0) (old new : Option Kept) (a : Answer) where
   pub called : (m n : Member) (b : Answer) → old ≡ Some (Mutator m) → new ≡ Some (Mutator n) → a ≡ b → P m n b → Calls P old new a

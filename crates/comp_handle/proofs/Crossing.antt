@@ -34,10 +34,13 @@ use Rattle.heap_layout.proofs.heap.MarkedHeap.TheSendSync as marked
 use Rattle.comp_crew.proofs.bench.Bench.TheSendSync as bench
 use Rattle.comp_crew.proofs.member.Member.TheSendSync as member
 use Rattle.page_plan.proofs.plan.Plan.TheSendSync as plan
+use Rattle.stopped_heap.proofs.lane.Lane.TheSendSync as lane
 use Rattle.stopped_heap.proofs.looks.Looks.TheSendSync as looks
 use Rattle.stopped_heap.proofs.places.Places.TheSendSync as found
 use Rattle.stopped_heap.proofs.tables.Tables.TheSendSync as tables
 use Rattle.mark_job.proofs.job.Job.TheSendSync as job
+use Rattle.mark_job.proofs.heads.Met.TheSendSync as met
+use Rattle.mark_job.proofs.marking.Marking.TheSendSync as marking
 use Rattle.first_touch.proofs.turns.Turns.TheSendSync as turns
 use denote.Param.Send.{recorded_send, enum_send}
 use denote.Enum.Declared as E
@@ -47,7 +50,9 @@ use Rattle.std_alloc.specs.contracts.arc.Arc as Arc
 use Rattle.page_plan.specs.contracts.plan.Plan as Plan
 use Rattle.stopped_heap.specs.contracts.places.Places as Places
 use Rattle.mark_job.specs.contracts.job.Job as Job
+use Rattle.mark_job.specs.contracts.marking.Marking as Marking
 use Rattle.first_touch.specs.contracts.turns.Turns as Turns
+use Rattle.comp_handle.specs.contracts.marker.Marker as Marker
 use Rattle.comp_handle.specs.contracts.pages.Has as Has
 use Rattle.comp_handle.specs.contracts.pages.Paging as Paging
 use Rattle.comp_handle.proofs.pages.Has.TheSendSync as has
@@ -135,7 +140,14 @@ turns_send = heap.Arc-send Turns.the_row turns.the_send turns.the_sync
 paging_field_send : IsSend (Struct (S.shape Paging.the_type))
 paging_field_send = struct_send (S.shape Paging.the_type) (turns_send, (has.the_field_send, tt))
 
+-- a share of a marking, and what its handle knows of it
+marking_send : IsSend (Arc.the_row Marking.the_row Heap.the_row ghosts)
+marking_send = heap.Arc-send Marking.the_row marking.the_send marking.the_sync
+
+marker_field_send : IsSend (Struct (S.shape Marker.the_type))
+marker_field_send = struct_send (S.shape Marker.the_type) (marking_send, (met.the_send, tt))
+
 -- what a handle keeps
 pub kept_send : IsSend Kept.the_row
 kept_send = recorded_send (Enum (E.shape Kept.the_type)) (Kept.the_type).D (Kept.the_type).to (Kept.the_type).to_one
-    (enum_send (E.shape Kept.the_type) (tt, ((marked.the_send, tt), ((arc_send, tt), ((bench.the_field_send, tt), ((member.the_field_send, tt), ((ended_field_send, tt), ((survey_send, tt), ((tables.the_send, tt), ((job_send, tt), ((paging_field_send, tt), ((looks.the_send, tt), tt))))))))))))
+    (enum_send (E.shape Kept.the_type) (tt, ((marked.the_send, tt), ((arc_send, tt), ((bench.the_field_send, tt), ((member.the_field_send, tt), ((ended_field_send, tt), ((survey_send, tt), ((tables.the_send, tt), ((job_send, tt), ((paging_field_send, tt), ((looks.the_send, tt), ((marker_field_send, tt), ((lane.the_send, tt), tt))))))))))))))

@@ -5,10 +5,12 @@ use Rattle.comp_crew.specs.declared.bench.Bench.{Bench}
 use Rattle.comp_crew.specs.declared.finishing.Ended.{Ended as End}
 use Rattle.comp_crew.specs.declared.member.Member.{Member}
 use Rattle.mark_job.specs.Asked.{Asked}
+use Rattle.stopped_heap.specs.Lanes.{Laned}
 use Rattle.stopped_heap.specs.Looks.{Looking}
 use Rattle.stopped_heap.specs.Places.{Found}
 use Rattle.stopped_heap.specs.Tables.{Reserved}
 use Rattle.comp_handle.specs.Answers.{bare}
+use Rattle.comp_handle.specs.Knowing.{knowing, Knowing}
 use Rattle.comp_handle.specs.Paged.{paged, Paged}
 use Rattle.comp_handle.specs.declared.answer.Answer.{Answer}
 use Rattle.comp_handle.specs.declared.kept.Kept.{Kept}
@@ -28,6 +30,8 @@ heap_in (Some (kept.Tables tables)) = None
 heap_in (Some (kept.Job job)) = None
 heap_in (Some (kept.Pages pages)) = None
 heap_in (Some (kept.Looks looks)) = None
+heap_in (Some (kept.Marking marker)) = None
+heap_in (Some (kept.Lane lane)) = None
 
 -- the heap whose plan the handle keeps
 abbrev pub plan_in : Option Kept → Option Heap
@@ -43,6 +47,8 @@ plan_in (Some (kept.Tables tables)) = None
 plan_in (Some (kept.Job job)) = None
 plan_in (Some (kept.Pages pages)) = None
 plan_in (Some (kept.Looks looks)) = None
+plan_in (Some (kept.Marking marker)) = None
+plan_in (Some (kept.Lane lane)) = None
 
 -- the crew that the handle keeps, with its mutators that nobody has taken
 abbrev pub crew_in : Option Kept → Option Bench
@@ -58,6 +64,8 @@ crew_in (Some (kept.Tables tables)) = None
 crew_in (Some (kept.Job job)) = None
 crew_in (Some (kept.Pages pages)) = None
 crew_in (Some (kept.Looks looks)) = None
+crew_in (Some (kept.Marking marker)) = None
+crew_in (Some (kept.Lane lane)) = None
 
 -- the mutator that the handle keeps
 abbrev pub mutator_in : Option Kept → Option Member
@@ -73,6 +81,8 @@ mutator_in (Some (kept.Tables tables)) = None
 mutator_in (Some (kept.Job job)) = None
 mutator_in (Some (kept.Pages pages)) = None
 mutator_in (Some (kept.Looks looks)) = None
+mutator_in (Some (kept.Marking marker)) = None
+mutator_in (Some (kept.Lane lane)) = None
 
 -- the finished cycle that the handle keeps
 abbrev pub end_in : Option Kept → Option End
@@ -88,6 +98,8 @@ end_in (Some (kept.Tables tables)) = None
 end_in (Some (kept.Job job)) = None
 end_in (Some (kept.Pages pages)) = None
 end_in (Some (kept.Looks looks)) = None
+end_in (Some (kept.Marking marker)) = None
+end_in (Some (kept.Lane lane)) = None
 
 -- what the survey found that the handle keeps
 abbrev pub survey_in : Option Kept → Option Found
@@ -103,6 +115,8 @@ survey_in (Some (kept.Tables tables)) = None
 survey_in (Some (kept.Job job)) = None
 survey_in (Some (kept.Pages pages)) = None
 survey_in (Some (kept.Looks looks)) = None
+survey_in (Some (kept.Marking marker)) = None
+survey_in (Some (kept.Lane lane)) = None
 
 -- the tables that the handle keeps
 abbrev pub tables_in : Option Kept → Option Reserved
@@ -118,6 +132,8 @@ tables_in (Some (kept.Tables tables)) = Some tables
 tables_in (Some (kept.Job job)) = None
 tables_in (Some (kept.Pages pages)) = None
 tables_in (Some (kept.Looks looks)) = None
+tables_in (Some (kept.Marking marker)) = None
+tables_in (Some (kept.Lane lane)) = None
 
 -- the heap that is marked by the job that the handle keeps
 abbrev pub job_in : Option Kept → Option Asked
@@ -133,6 +149,8 @@ job_in (Some (kept.Tables tables)) = None
 job_in (Some (kept.Job job)) = Some job.value
 job_in (Some (kept.Pages pages)) = None
 job_in (Some (kept.Looks looks)) = None
+job_in (Some (kept.Marking marker)) = None
+job_in (Some (kept.Lane lane)) = None
 
 -- the pages that the handle keeps a share of, and what it has of them
 abbrev pub pages_in : Option Kept → Option Paged
@@ -148,6 +166,8 @@ pages_in (Some (kept.Tables tables)) = None
 pages_in (Some (kept.Job job)) = None
 pages_in (Some (kept.Pages pages)) = Some (paged pages)
 pages_in (Some (kept.Looks looks)) = None
+pages_in (Some (kept.Marking marker)) = None
+pages_in (Some (kept.Lane lane)) = None
 
 -- the marking by looks that the handle keeps
 abbrev pub looks_in : Option Kept → Option Looking
@@ -163,6 +183,42 @@ looks_in (Some (kept.Tables tables)) = None
 looks_in (Some (kept.Job job)) = None
 looks_in (Some (kept.Pages pages)) = None
 looks_in (Some (kept.Looks looks)) = Some looks
+looks_in (Some (kept.Marking marker)) = None
+looks_in (Some (kept.Lane lane)) = None
+
+-- the marking that the handle keeps a share of, and what it knows of it
+abbrev pub marking_in : Option Kept → Option Knowing
+marking_in None = None
+marking_in (Some kept.Nothing) = None
+marking_in (Some (kept.Heap heap)) = None
+marking_in (Some (kept.Plan plan)) = None
+marking_in (Some (kept.Crew bench)) = None
+marking_in (Some (kept.Mutator m)) = None
+marking_in (Some (kept.Ended e)) = None
+marking_in (Some (kept.Survey survey)) = None
+marking_in (Some (kept.Tables tables)) = None
+marking_in (Some (kept.Job job)) = None
+marking_in (Some (kept.Pages pages)) = None
+marking_in (Some (kept.Looks looks)) = None
+marking_in (Some (kept.Marking marker)) = Some (knowing marker)
+marking_in (Some (kept.Lane lane)) = None
+
+-- the lane of a marking that the handle keeps
+abbrev pub lane_in : Option Kept → Option Laned
+lane_in None = None
+lane_in (Some kept.Nothing) = None
+lane_in (Some (kept.Heap heap)) = None
+lane_in (Some (kept.Plan plan)) = None
+lane_in (Some (kept.Crew bench)) = None
+lane_in (Some (kept.Mutator m)) = None
+lane_in (Some (kept.Ended e)) = None
+lane_in (Some (kept.Survey survey)) = None
+lane_in (Some (kept.Tables tables)) = None
+lane_in (Some (kept.Job job)) = None
+lane_in (Some (kept.Pages pages)) = None
+lane_in (Some (kept.Looks looks)) = None
+lane_in (Some (kept.Marking marker)) = None
+lane_in (Some (kept.Lane lane)) = Some lane
 
 -- The answer of a call to which the handle with this number, among those of the call, does not keep what is asked for:
 -- it is empty, or keeps something of another kind.

@@ -3,9 +3,10 @@ use Rattle.std.specs.Prelude.{◌≡◌, Bool, true, false, Option, Some}
 use Rattle.comp_crew.specs.Benches.{IsBench}
 use Rattle.comp_crew.specs.Members.{IsMember}
 use Rattle.comp_crew.specs.Finishing.{IsEnded}
+use Rattle.comp_handle.specs.Knowing.{knowing, IsOwnMet}
 use Rattle.comp_handle.specs.Paged.{paged, IsOwn}
 use Rattle.comp_handle.specs.declared.kept.Kept.{Kept}
-use Rattle.comp_handle.specs.declared.kept.Kept.TheVariants.{Nothing, Heap, Plan, Crew, Mutator, Ended, Survey, Tables, Job, Pages, Looks}
+use Rattle.comp_handle.specs.declared.kept.Kept.TheVariants.{Nothing, Heap, Plan, Crew, Mutator, Ended, Survey, Tables, Job, Pages, Looks, Marking, Lane}
 
 abbrev pub IsKept : Kept → Type 0
 IsKept Nothing = Unit {0}
@@ -19,6 +20,8 @@ IsKept (Tables tables) = Unit {0}
 IsKept (Job job) = Unit {0}
 IsKept (Pages pages) = IsOwn (paged pages)
 IsKept (Looks looks) = Unit {0}
+IsKept (Marking marker) = IsOwnMet (knowing marker)
+IsKept (Lane lane) = Unit {0}
 
 -- the handle keeps this now, or what it kept before
 abbrev pub KeepsIf : Bool → Kept → Option Kept → Option Kept → Type 0

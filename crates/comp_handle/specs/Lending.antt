@@ -1,5 +1,5 @@
 -- Collections and surveys by tables that were made before.
-use Rattle.std.specs.Prelude.{◌≡◌, ℕ, ◌⊎◌, List, length, Option, None, Some}
+use Rattle.std.specs.Prelude.{◌≡◌, ℕ, ◌≤◌, ◌⊎◌, List, length, Option, None, Some}
 use Rattle.heap_layout.specs.Versions.{version_of}
 use Rattle.heap_layout.specs.declared.edition.Edition.{Edition}
 use Rattle.mark_job.specs.Asked.{Asked, IsMarkedOf}
@@ -59,11 +59,16 @@ abbrev pub SurveysLent : ℕ → List ℕ → List ℕ → Reserved → Option K
 SurveysLent n words roots tables now a =
     (edition : Edition) × (version_of edition ≡ n) × SurveysLentIn (asked edition words roots) tables now a
 
--- why they do not: a fault, or there is no memory for the survey's own few bytes
+-- the tables have room for the heap, which has no fault: its survey finds this
+abbrev pub IsSoundWithin : Asked → Reserved → Type 0
+IsSoundWithin heap tables = (length heap.words ≤ tables.room) × ((found : Found) × IsMarkedOf heap found)
+
+-- Why they do not: a fault, which is never for want of memory. Or there is no memory for the survey's own few bytes, and
+-- no fault, and room for the heap.
 abbrev pub IsUnlentIn : Asked → Reserved → Answer → Type 0
 IsUnlentIn heap tables a =
     ((fault : LentFault) × (a ≡ of_lent fault) × IsLentFaultOf heap.edition heap.words heap.roots tables.room fault)
-    ⊎ ((a ≡ of_survey survey.OutOfMemory) × IsFaultOf heap.edition heap.words heap.roots survey.OutOfMemory)
+    ⊎ ((a ≡ of_survey survey.OutOfMemory) × IsFaultOf heap.edition heap.words heap.roots survey.OutOfMemory × IsSoundWithin heap tables)
 
 -- or there is no edition n
 abbrev pub IsUnlent : ℕ → List ℕ → List ℕ → Reserved → Answer → Type 0

@@ -1,4 +1,5 @@
 pub mod Paged
+pub mod Knowing
 pub mod Keeping
 pub mod Held
 pub mod Answers
@@ -10,8 +11,10 @@ pub mod Resting
 pub mod ByBits
 pub mod Looks
 pub mod Looking
+pub mod Lanes
 pub mod Lending
 pub mod Helping
+pub mod Marking
 pub mod Crewing
 pub mod Facts
 pub mod Planning

@@ -1,10 +1,11 @@
+use crate::marker::Marker;
 use crate::pages::Paging;
 use comp_crew::{Bench, Ended, Member};
 use heap_layout::MarkedHeap;
 use mark_job::Job;
 use page_plan::Plan;
 use std::sync::Arc;
-use stopped_heap::{Looks, Places, Tables};
+use stopped_heap::{Lane, Looks, Places, Tables};
 
 /// What a handle keeps.
 #[derive(Drop)]
@@ -31,4 +32,8 @@ pub enum Kept {
     Pages(Paging),
     /// A marking by looks that goes on.
     Looks(Looks),
+    /// A share of a marking by many threads, and what its handle knows of it.
+    Marking(Marker),
+    /// What one of several markers of a heap met and looked at.
+    Lane(Lane),
 }

@@ -1,16 +1,17 @@
 //! What is kept, by its kind: taken out, or looked at.
 ghost use Rattle.std.specs.Prelude.{◌≡◌, None, Some, IfErr, IfOk, MatchOption};
-ghost use Rattle.comp_handle.specs.HandleKinds.{crew_in, end_in, heap_in, job_in, looks_in, mutator_in, pages_in, plan_in, survey_in, tables_in};
+ghost use Rattle.comp_handle.specs.HandleKinds.{crew_in, end_in, heap_in, job_in, lane_in, looks_in, marking_in, mutator_in, pages_in, plan_in, survey_in, tables_in};
 ghost use Rattle.comp_handle.specs.declared.kept.Kept.TheVariants as kinds;
 
 use crate::kept::Kept;
+use crate::marker::Marker;
 use crate::pages::Paging;
 use comp_crew::{Bench, Ended, Member};
 use heap_layout::MarkedHeap;
 use mark_job::Job;
 use page_plan::Plan;
 use std::sync::Arc;
-use stopped_heap::{Looks, Places, Tables};
+use stopped_heap::{Lane, Looks, Places, Tables};
 
 /// The heap that is kept. Err with what is kept if it is none.
 pub(crate) fn into_heap(kept: Kept) -> Result<MarkedHeap, Kept>
@@ -111,6 +112,28 @@ pub(crate) fn into_looks(kept: Kept) -> Result<Looks, Kept>
     }
 }
 
+/// The share of a marking that is kept. Err with what is kept if it is none.
+pub(crate) fn into_marking(kept: Kept) -> Result<Marker, Kept>
+    ensures marking { IfOk result (λ marker. kept ≡ kinds.Marking marker) }
+    ensures other { IfErr result (λ left. (left ≡ kept) × (marking_in (Some kept) ≡ None)) }
+{
+    match kept {
+        Kept::Marking(marker) => Ok(marker),
+        other => Err(other),
+    }
+}
+
+/// The lane that is kept. Err with what is kept if it is none.
+pub(crate) fn into_lane(kept: Kept) -> Result<Lane, Kept>
+    ensures lane { IfOk result (λ lane. kept ≡ kinds.Lane lane) }
+    ensures other { IfErr result (λ left. (left ≡ kept) × (lane_in (Some kept) ≡ None)) }
+{
+    match kept {
+        Kept::Lane(lane) => Ok(lane),
+        other => Err(other),
+    }
+}
+
 /// The heap that is kept. None if it is none.
 pub(crate) fn as_heap(kept: &Kept) -> Option<&MarkedHeap>
     ensures { MatchOption result (heap_in (Some kept.now) ≡ None) (λ heap. kept.now ≡ kinds.Heap heap.now) }
@@ -187,6 +210,26 @@ pub(crate) fn as_looks(kept: &Kept) -> Option<&Looks>
 {
     match kept {
         Kept::Looks(looks) => Some(looks),
+        _ => None,
+    }
+}
+
+/// The share of a marking that is kept. None if it is none.
+pub(crate) fn as_marking(kept: &Kept) -> Option<&Marker>
+    ensures { MatchOption result (marking_in (Some kept.now) ≡ None) (λ marker. kept.now ≡ kinds.Marking marker.now) }
+{
+    match kept {
+        Kept::Marking(marker) => Some(marker),
+        _ => None,
+    }
+}
+
+/// The lane that is kept. None if it is none.
+pub(crate) fn as_lane(kept: &Kept) -> Option<&Lane>
+    ensures { MatchOption result (lane_in (Some kept.now) ≡ None) (λ lane. kept.now ≡ kinds.Lane lane.now) }
+{
+    match kept {
+        Kept::Lane(lane) => Some(lane),
         _ => None,
     }
 }

@@ -1,5 +1,5 @@
 //! Tables for surveys of heaps at rest, made before, so that a collection by them takes no memory.
-ghost use Rattle.std.specs.Prelude.{◌≡◌, IfErr, IfOk, IsFalse, IsTrue};
+ghost use Rattle.std.specs.Prelude.{◌≡◌, ◌≤◌, length, IfErr, IfOk, IsFalse, IsTrue};
 ghost use Rattle.comp_handle.specs.Keeping.{IsKept};
 ghost use Rattle.comp_handle.specs.HandleKinds.{survey_in, tables_in, Asks, Fills, Turns, TurnsKept};
 ghost use Rattle.comp_handle.specs.Lending.{CollectsLent, CollectsLentIn, CollectsLentInPlace, CollectsLentWithin, IsStillShared, IsUnlent, IsUnlentIn, Reserves, Returns, SurveysLent, SurveysLentIn};
@@ -152,6 +152,7 @@ fn found_by_tables(
 ) -> Result<Places, NotSurveyed>
     ensures found { IfOk result (IsMarkedOf (asked edition words.now roots.now)) }
     ensures room { IfOk result (λ found. found.room ≡ tables.room) }
+    ensures fits { IfOk result (λ _. length words.now ≤ tables.room) }
     ensures fault { IfErr result (λ refused. IsLentFaultOf edition words.now roots.now tables.room refused.fault) }
     ensures back { IfErr result (λ refused. refused.tables ≡ tables) }
 {
@@ -226,7 +227,8 @@ fn surveyed(
 }
 
 /// Surveys like `survey_by_roots`, by the tables that a handle keeps; another one, which was empty, keeps the survey
-/// then, and that of the tables is empty. It takes a few bytes of memory, and none by the size of the heap. If it is
+/// then, and that of the tables is empty. It takes a few bytes of memory, for the handle, and none by the size of the
+/// heap; that there are none is answered only if the tables have room for the heap, and it has no fault. If it is
 /// refused, both stay as they were.
 pub fn survey_lent(
     alloc: Global,

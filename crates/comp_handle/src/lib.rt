@@ -17,10 +17,13 @@ mod joining;
 mod judging;
 mod kept;
 mod kinds;
+mod lanes;
 mod lending;
 mod looking;
 mod looks;
 mod making;
+mod marker;
+mod marking;
 mod moves;
 mod opening;
 mod pages;
@@ -52,12 +55,18 @@ pub use imaging::{read_image, write_image};
 pub use joining::{give_member, meet_members};
 pub use judging::judge_dump;
 pub use kept::Kept;
+pub use lanes::{
+    begin_lane, give_lane, join_lanes, look_lane, meet_lane, share_lane, take_lane, waiting_lane,
+    whole_lane,
+};
 pub use lending::{
     collect_in_place_lent, collect_lent, reserve_tables, return_tables, survey_lent,
 };
 pub use looking::{look_again, look_rows, meet_looks};
-pub use looks::{begin_looks, finish_looks, waiting_looks};
+pub use looks::{begin_looks, check_looks, finish_looks, waiting_looks};
 pub use making::{put_heap, put_marked};
+pub use marker::Marker;
+pub use marking::{begin_marking, finish_marking, help_marking, meet_marking, share_marking};
 pub use moves::judge_moved;
 pub use pages::{Has, Paging};
 pub use paging::{begin_pages, end_pages, share_pages};

@@ -12,8 +12,8 @@ use crate::opening::{Opened, close, open};
 use std::alloc::Global;
 use stopped_heap::{LookFault, MeetFault};
 
-// The answer of an object that is not looked at.
-fn unlooked(fault: LookFault) -> Answer
+/// The answer of an object that is not looked at.
+pub(crate) fn unlooked(fault: LookFault) -> Answer
     ensures { result ≡ of_look fault }
 {
     match fault {
@@ -28,8 +28,8 @@ fn unlooked(fault: LookFault) -> Answer
     }
 }
 
-// The answer of values that are not met.
-fn unmet(fault: MeetFault) -> Answer
+/// The answer of values that are not met.
+pub(crate) fn unmet(fault: MeetFault) -> Answer
     ensures { result ≡ of_meet fault }
 {
     match fault {

@@ -1,6 +1,7 @@
 //! A marking of a heap while its threads go on, by handles: how it begins, what waits, and how it ends.
 ghost use Rattle.std.specs.Prelude.{◌≡◌, ◌≤◌, None, length, IfErr, IfOk};
 ghost use Rattle.comp_handle.specs.HandleKinds.{looks_in, Asks};
+ghost use Rattle.comp_handle.specs.Lanes.{of_check, Checks};
 ghost use Rattle.comp_handle.specs.Looks.{BeginsLooks, BeginsOf, CopiesWaiting, EndsIn, EndsLooks, IsBeginFault, IsBegun, IsEnded, IsUnended, SaysWaiting};
 ghost use Rattle.heap_layout.specs.Limits.{most_roots, most_words};
 
@@ -14,7 +15,7 @@ use crate::opening::{Opened, close, is_full, keep, open};
 use heap_layout::{Edition, edition_of};
 use std::alloc::Global;
 use std::sync::Arc;
-use stopped_heap::{FinishFault, Looks, Places, SurveyFault};
+use stopped_heap::{CheckFault, FinishFault, Looks, Places, SurveyFault};
 
 // A marking that begins with these roots.
 fn looks_of(
@@ -110,6 +111,47 @@ pub fn waiting_looks(alloc: Global, h: &mut Handle, indices: &mut [u64]) -> Answ
     };
     let answer = match as_looks(kept.as_ref()) {
         Some(looks) => copy(looks, indices),
+        None => Answer::bare(255, 0),
+    };
+    h.put_back(kept);
+    answer
+}
+
+// The answer of objects that are not as they must be.
+fn unsound(fault: CheckFault) -> Answer
+    ensures { result ≡ of_check fault }
+{
+    match fault {
+        CheckFault::WrongLength => Answer::bare(31, 0),
+        CheckFault::Changed(i) => Answer::bare(26, i),
+        CheckFault::Unmarked(i) => Answer::bare(27, i),
+        CheckFault::BadWeak(i) => Answer::bare(45, i),
+        CheckFault::Unowned(i) => Answer::bare(192, i),
+        CheckFault::OutOfMemory => Answer::bare(9, 0),
+    }
+}
+
+// Asks of all objects that were looked at.
+fn check(alloc: Global, looks: &Looks, words: &[u64]) -> Answer
+    ensures { Checks words.now looks.now result }
+{
+    match looks.check(alloc, words) {
+        Ok(()) => Answer::done(0),
+        Err(fault) => unsound(fault),
+    }
+}
+
+/// Asks of all objects at which a marking looked, at once, whether they are in these words as they must be. For
+/// debugging: it believes nothing that was said of cards or barriers.
+pub fn check_looks(alloc: Global, h: &mut Handle, words: &[u64]) -> Answer
+    ensures same { h.new.kept ≡ h.old.kept }
+    ensures checks { Asks 0 looks_in (Checks words.now) (Unit {0}) h.old.kept result }
+{
+    let Some(kept) = h.take(alloc) else {
+        return Answer::bare(10, 0);
+    };
+    let answer = match as_looks(kept.as_ref()) {
+        Some(looks) => check(alloc, looks, words),
         None => Answer::bare(255, 0),
     };
     h.put_back(kept);

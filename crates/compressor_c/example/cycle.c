@@ -6,6 +6,7 @@
 #include <pthread.h>
 #include <stdio.h>
 #include <stdlib.h>
+#include <string.h>
 
 #define FROM_SPACE COMPRESSOR_FROM_SPACE
 #define TO_SPACE COMPRESSOR_TO_SPACE
@@ -356,12 +357,14 @@ static void large(void) {
 }
 
 int main(void) {
+    static const char version_line[] = "compressor " COMPRESSOR_VERSION_TEXT "\n";
     compressor_heap heap = COMPRESSOR_EMPTY;
     compressor_plan plan = COMPRESSOR_EMPTY;
     compressor_crew crew = COMPRESSOR_EMPTY, other = COMPRESSOR_EMPTY;
     compressor_mutator none = COMPRESSOR_EMPTY;
     compressor_end end = COMPRESSOR_EMPTY;
     IS(compressor_version() == COMPRESSOR_VERSION);
+    IS(strncmp(compressor_version_text(), version_line, sizeof version_line - 1) == 0);
     make_heap(&heap);
     DO(compressor_heap_plan(&heap, &plan));
     ANSWERS(compressor_heap_plan(&heap, &plan), COMPRESSOR_EMPTY_HANDLE, 0);

@@ -2,14 +2,14 @@
    it. A flipped heap: threads go on while their heap is compacted, and read, write and allocate by calls of a mutator.
    A heap at rest: it lies in memory of the runtime's, which reads, writes and allocates there with no call
    (compressor_rest.h); it stands still for a collection, or for its survey alone (compressor_pages_begin). Here is the
-   manual of each call, and docs/C.md is the guide; docs/ is installed in share/doc/compressor. The library calls malloc,
-   realloc and free, and nothing else.
+   manual of each call, and docs/C.md is the guide; docs/ is installed in share/doc/compressor. The library calls
+   malloc, realloc and free, and nothing else.
 
-   Handles. Each kind of thing has a struct of its own: heap, plan, crew, mutator, end; survey, tables, job, looks,
-   pages. A handle is empty or keeps one thing. Begin with COMPRESSOR_EMPTY, or with zero bytes. Only calls write to a
-   handle. It may be moved in memory, and never used from two copies. The handles of one call are not the same handle.
-   What a call makes goes into an empty handle; a drop alone frees what a handle keeps. Where a call says that something
-   goes, its handle is empty then.
+   Handles. Each kind of thing has a struct of its own: heap, plan, crew, mutator, end; survey, tables, job, marking,
+   looks, lane, pages. A handle is empty or keeps one thing. Begin with COMPRESSOR_EMPTY, or with zero bytes. Only calls
+   write to a handle. It may be moved in memory, and never used from two copies. The handles of one call are not the
+   same handle. What a call makes goes into an empty handle; a drop alone frees what a handle keeps. Where a call says
+   that something goes, its handle is empty then.
 
    Arrays. The pointer of an array of length 0 may be null, and no other one. Elements are aligned as their type. An
    array or a struct that is written overlaps no other one, and none overlaps a handle, of the same call; those that are
@@ -19,9 +19,9 @@
    Threads. Each handle is used by one call at a time, reads included; from one thread to the next by a lock, the start
    or join of a thread, or an atomic that is stored with release and loaded with acquire, or more. What is often asked
    is copied into plain structs (.._facts), which anybody may read. Mutators of one crew are used at the same time
-   without a lock. To use one plan, survey, job or slide by pages from several threads, give each a share of its own
-   (.._share). No call waits, locks, or starts a thread. No call is made from a signal handler, but for those of which
-   it is said; none in the forked child of a process with threads.
+   without a lock. To use one plan, survey, job, marking or slide by pages from several threads, give each a share of
+   its own (.._share). No call waits, locks, or starts a thread. No call is made from a signal handler, but for those of
+   which it is said; none in the forked child of a process with threads.
 
    Answers. status is COMPRESSOR_DONE, and then value is the result, 0 if none is named; else value and other are
    the numbers that the refusal names, in this order, and 0. A refused call leaves handles and buffers as they were,
@@ -84,7 +84,9 @@ typedef struct compressor_end { void *at; } compressor_end;         /* a finishe
 typedef struct compressor_survey { void *at; } compressor_survey;   /* which objects of a heap at rest are live */
 typedef struct compressor_tables { void *at; } compressor_tables;   /* room for a survey, made before it */
 typedef struct compressor_job { void *at; } compressor_job;         /* the marking of a heap at rest by many threads */
+typedef struct compressor_marking { void *at; } compressor_marking; /* the same in steps, over words that are lent */
 typedef struct compressor_looks { void *at; } compressor_looks;     /* the marking of a heap while its threads go on */
+typedef struct compressor_lane { void *at; } compressor_lane;       /* what one of several markers met and looked at */
 typedef struct compressor_pages { void *at; } compressor_pages;     /* the slide of a surveyed heap, page by page */
 
 typedef struct compressor_answer {
@@ -127,7 +129,8 @@ typedef enum compressor_status {
     COMPRESSOR_STILL_SHARED = 28,     /* another handle keeps a share; of a crew never, if conditions are kept */
     COMPRESSOR_OTHER_COUNT = 29,      /* not as many words as were surveyed */
     COMPRESSOR_SHORT_TABLES = 30,     /* (words) there are more words than the tables have room for */
-    COMPRESSOR_WRONG_LENGTH = 31,     /* not one block of bits for each 64 words, the last ones in part */
+    COMPRESSOR_WRONG_LENGTH = 31,     /* not one block of bits for each 64 words, the last ones in part; or not as many
+                                         words as a marking is of */
     COMPRESSOR_BAD_OPTIONS = 32,      /* (options) a bit that has no meaning */
     /* 32 + n: fault Hn of a heap or an image (docs/FORMATS.md); H11 is COMPRESSOR_OUT_OF_MEMORY */
     COMPRESSOR_TOO_LARGE = 33,        /* more words, marks or roots than the edition allows */
@@ -158,7 +161,7 @@ typedef enum compressor_status {
     COMPRESSOR_FILE_BAD_FIELD = 100,
     /* 128 + n: fault Sn of a heap at rest; those that have the cause of a fault Hn are 32 + n */
     COMPRESSOR_BAD_REFERENCE = 131,   /* (index of the word) a reference of a live object leads to none of the words */
-    COMPRESSOR_OVERLAP = 135,         /* (index) the object has a word with another live object */
+    COMPRESSOR_OVERLAP = 135,         /* (index) the object has a word with another live object; of lanes: this word */
     /* 160 + n: fault Vn of a moved heap. Objects are the marked ones, counted from 0 */
     COMPRESSOR_MOVED_WRONG_HEAD = 161,    /* (0 edition, 1 places, 2 roots) */
     COMPRESSOR_MOVED_PLACE_OUTSIDE = 162, /* (object) */
@@ -166,7 +169,8 @@ typedef enum compressor_status {
     COMPRESSOR_MOVED_WRONG_ROOT = 164,    /* (number) */
     COMPRESSOR_MOVED_WRONG_WORD = 165,    /* (object; word) */
     /* bits of the runtime's own */
-    COMPRESSOR_NOT_A_RUN = 192, /* (index) a first word that is not live; or it is live, no first word, and behind none */
+    COMPRESSOR_NOT_A_RUN = 192,       /* (index) a first word that is not live; or it is live, no first word, and behind
+                                         none */
     /* calls of a slide by pages */
     COMPRESSOR_NO_SIZE = 193,         /* a page has no words */
     COMPRESSOR_PAGE_HOME = 194,       /* (page) it was published */
@@ -175,9 +179,15 @@ typedef enum compressor_status {
     COMPRESSOR_NOT_HOME = 197,        /* (page) it is not published yet */
     COMPRESSOR_NO_TURN = 198,         /* this handle has no turn, or, to build, only that of a built page */
     COMPRESSOR_OTHER_LENGTH = 199,    /* (words) the page has so many words, and the memory has another number */
+    /* calls of a marking by many threads */
+    COMPRESSOR_MARKERS_BUSY = 200,    /* too many other threads marked a moment ago: call again */
+    COMPRESSOR_STILL_MARKING = 201,   /* objects wait to be looked at */
+    COMPRESSOR_BAD_OBJECT = 202,      /* (index) it is too long, ends past the words, or overlaps another one */
     /* calls of a marking by looks */
     COMPRESSOR_NO_SUCH_OBJECT = 210,  /* (index) no object was met there; (0) there are more rows than objects wait */
     COMPRESSOR_STILL_WAITING = 211,   /* (index) this object waits to be looked at */
+    COMPRESSOR_MISSING_OBJECT = 212,  /* (index) a lane met this object, and it is in none of those that were joined */
+    COMPRESSOR_OTHER_HEAP = 213,      /* the lanes are of two editions, or not of as many words */
     COMPRESSOR_WRONG_HANDLE = 255         /* a handle of another kind: a cast, or a byte that C wrote */
 } compressor_status;
 
@@ -251,9 +261,9 @@ typedef struct compressor_survey_facts {
     uint64_t live_words; /* of the live objects: those that slide, from the first word of the new memory on */
 } compressor_survey_facts;
 
-/* What a call of compressor_job_help did. */
+/* What a call of compressor_job_help or compressor_marking_help did. */
 enum compressor_help {
-    COMPRESSOR_HELP_DONE = 0,   /* nothing is left to help with: the job may be finished */
+    COMPRESSOR_HELP_DONE = 0,   /* nothing is left to help with: the job or the marking may be finished */
     COMPRESSOR_HELP_WORKED = 1, /* it looked at some objects: call again */
     COMPRESSOR_HELP_IDLE = 2    /* other threads have the objects that wait: call again later */
 };
@@ -400,8 +410,13 @@ static inline const char *compressor_status_text(uint32_t status) {
         COMPRESSOR_CASE_(NOT_HOME)
         COMPRESSOR_CASE_(NO_TURN)
         COMPRESSOR_CASE_(OTHER_LENGTH)
+        COMPRESSOR_CASE_(MARKERS_BUSY)
+        COMPRESSOR_CASE_(STILL_MARKING)
+        COMPRESSOR_CASE_(BAD_OBJECT)
         COMPRESSOR_CASE_(NO_SUCH_OBJECT)
         COMPRESSOR_CASE_(STILL_WAITING)
+        COMPRESSOR_CASE_(MISSING_OBJECT)
+        COMPRESSOR_CASE_(OTHER_HEAP)
         COMPRESSOR_CASE_(WRONG_HANDLE)
 #undef COMPRESSOR_CASE_
         default: return "UNKNOWN";
@@ -411,6 +426,11 @@ static inline const char *compressor_status_text(uint32_t status) {
 /* The version of the archive: COMPRESSOR_VERSION of the header with which it was made. A program may be linked with any
    version that has the first number of the header for which it was compiled, and that is not lower. */
 uint32_t compressor_version(void);
+
+/* What the archive is, in lines, as a static text that ends with 0. The first is "compressor " COMPRESSOR_VERSION_TEXT.
+   The others say of what it was made and what proved it, as far as that was told when it was packed, or that it is not
+   known: they are for people, and no form of them is promised. */
+const char *compressor_version_text(void);
 
 /* THE HEAP AT REST */
 
@@ -501,9 +521,11 @@ compressor_answer compressor_collect_lent(compressor_tables *tables, uint32_t ed
 compressor_answer compressor_collect_in_place_lent(compressor_tables *tables, uint32_t edition, uint64_t *words,
                                                    size_t word_count, uint64_t *roots, size_t root_count);
 /* As compressor_survey_by_roots, by tables, which go: the survey has them. If it is refused they stay. Refusals:
-   BAD_EDITION; TOO_LARGE; SHORT_TABLES (their room); a fault that is there, as above; memory, some 200 bytes. return:
-   ends the survey, which goes, and gives the tables back; answers the words for which they have room, 0 if the survey
-   was not made by any. Takes no memory. Refusals: STILL_SHARED, if another handle keeps a share. */
+   BAD_EDITION; TOO_LARGE; SHORT_TABLES (their room); a fault that is there, as above; memory, some 200 bytes, only if
+   the heap has room in the tables, and no fault. They are for the handle: it is the one place where a call to which
+   tables are lent asks for memory. return: ends the survey, which goes, and gives the tables back; answers the words
+   for which they have room, 0 if the survey was not made by any. Takes no memory. Refusals: STILL_SHARED, if another
+   handle keeps a share. */
 compressor_answer compressor_survey_by_roots_lent(compressor_tables *tables, uint32_t edition, const uint64_t *words,
                                                   size_t word_count, const uint64_t *roots, size_t root_count,
                                                   compressor_survey *survey);
@@ -525,6 +547,34 @@ compressor_answer compressor_job_help(compressor_job *job, uint64_t who);
    heap as above: then the job is gone, and the survey is empty. */
 compressor_answer compressor_job_finish(compressor_job *job, compressor_survey *survey);
 void compressor_job_drop(compressor_job *job);
+
+/* A marking in steps by many threads, with no copy: the words are lent to each help, and data words are not read. While
+   a help runs, nobody writes to the words; between two, the runtime may. It then hands to meet what it writes over, and
+   each object that it makes, once its words are written. What was not handed in is found by the slide, which asks of
+   each object what a survey asks: so slide all parts before a root is forwarded, as of compressor_survey_by_bits. If a
+   sound heap stood still from begin to the slide, no part is refused.
+   begin: a marking from these roots, of a heap of word_count words; with objects that are made meanwhile, all of the
+   room. Refusals: BAD_EDITION, also of editions 1 and 2; TOO_LARGE; BAD_ROOT; memory, two bits a word. share: another
+   handle of the same marking, for another thread, or memory.
+   help: looks at some objects, and answers an enum compressor_help, as compressor_job_help does. Refusals:
+   WRONG_LENGTH, if these are not word_count words. Where a helper gets no memory, 4 bytes for each object that is met,
+   or finds a bad object, all give up, and finish says it.
+   meet: the objects to which values lead: roots, new objects, or what is written over. Refusals, after which none is
+   met: BAD_ROOT (its number); MARKERS_BUSY; memory. */
+compressor_answer compressor_marking_begin(uint32_t edition, uint64_t word_count, const uint64_t *roots,
+                                           size_t root_count, compressor_marking *marking);
+compressor_answer compressor_marking_share(compressor_marking *marking, compressor_marking *other);
+compressor_answer compressor_marking_help(compressor_marking *marking, const uint64_t *words, size_t word_count,
+                                          uint64_t who);
+compressor_answer compressor_marking_meet(compressor_marking *marking, const uint64_t *values, size_t value_count);
+/* Ends a marking, which goes, after a help that answered COMPRESSOR_HELP_DONE, with the roots as they are now: the
+   survey has what was met. Answers the live words. No word of the heap is looked at. Refusals: STILL_SHARED, if another
+   handle keeps a share, and the marking stays. After the others it is gone, and the survey is empty, so survey by the
+   roots: memory; BAD_OBJECT; STILL_MARKING; TOO_LARGE, too many roots; NOT_A_RUN or OBJECT_PAST_END; BAD_ROOT, one to
+   an object that was not met. */
+compressor_answer compressor_marking_finish(compressor_marking *marking, const uint64_t *roots, size_t root_count,
+                                            compressor_survey *survey);
+void compressor_marking_drop(compressor_marking *marking);
 
 /* A marking while the threads of the runtime go on, by looks. Its one marker, one thread at a time, hands in the row of
    an object: its header, references and weak words, copied one after the other (compressor_copy_row of
@@ -556,7 +606,39 @@ compressor_answer compressor_looks_again(compressor_looks *looks, uint64_t index
 compressor_answer compressor_looks_meet(compressor_looks *looks, const uint64_t *values, size_t value_count);
 compressor_answer compressor_looks_finish(compressor_looks *looks, const uint64_t *roots, size_t root_count,
                                           compressor_survey *survey);
+/* For debugging: asks of all objects that were looked at, at once, whether they are in these words as they must be. The
+   marking stays. Refusals: WRONG_LENGTH, not as many words as it is of; memory, or a fault that is there: CHANGED,
+   UNMARKED, BAD_WEAK or NOT_A_RUN, a word that belongs to no object any more. */
+compressor_answer compressor_looks_check(compressor_looks *looks, const uint64_t *words, size_t word_count);
 void compressor_looks_drop(compressor_looks *looks);
+
+/* The same by several markers. Each has a lane of its own, in one thread at a time, and hands in the rows of what waits
+   there. An object that several lanes meet waits in the one that met it first. At the second stop all lanes are joined,
+   in any order, and made whole: then again, meet, look and finish are those of compressor_looks.
+   meet, look, take, join and whole answer 1 if an object waits then to be looked at, else 0.
+   begin: the first lane, which met nothing. Refusals: BAD_EDITION, also of editions 1 and 2; TOO_LARGE; memory, four
+   bits a word. share: one more of the same marking, which met nothing either, for another thread, or memory, three
+   bits a word.
+   waiting, meet and look: as of compressor_looks, by this lane. Each root is met by any lane.
+   give: lets go of the last objects that wait, `most` at most, and writes their indices; answers how many. Takes no
+   memory. take: what another lane gave waits in this one. Refusals: BAD_ROOT (its number), an index past the words,
+   or memory, 4 bytes for each.
+   join: the first handle has both lanes as one, and the other lane goes. Refusals, after which both are gone:
+   OTHER_HEAP; OVERLAP, a word that both have, as where two lanes took the same index; memory, 4 bytes for each object
+   of the other lane.
+   whole: the lane goes, and the marking is one of compressor_looks. Takes no memory. Refusals: MISSING_OBJECT, and the
+   lane is gone: another one was not joined, or what it gave was not taken.
+   A refusal of meet, look or take ends the lane, which goes. Drop the others then, and survey by the roots. */
+compressor_answer compressor_lane_begin(uint32_t edition, uint64_t word_count, compressor_lane *lane);
+compressor_answer compressor_lane_share(compressor_lane *lane, compressor_lane *other);
+compressor_answer compressor_lane_waiting(compressor_lane *lane, uint64_t *indices, size_t most);
+compressor_answer compressor_lane_meet(compressor_lane *lane, const uint64_t *values, size_t value_count);
+compressor_answer compressor_lane_look(compressor_lane *lane, const uint64_t *rows, size_t row_words);
+compressor_answer compressor_lane_give(compressor_lane *lane, uint64_t *indices, size_t most);
+compressor_answer compressor_lane_take(compressor_lane *lane, const uint64_t *indices, size_t index_count);
+compressor_answer compressor_lane_join(compressor_lane *lane, compressor_lane *other);
+compressor_answer compressor_lane_whole(compressor_lane *lane, compressor_looks *looks);
+void compressor_lane_drop(compressor_lane *lane);
 
 /* A slide by first touch: the roots are forwarded, and the threads of the runtime go on while its pages come home, each
    built by whoever accesses it first. Page k has the live words from number k * page_words on; the last one may be
@@ -762,7 +844,8 @@ COMPRESSOR_ASSERT_(sizeof(compressor_heap) == 8 && sizeof(compressor_plan) == 8 
 COMPRESSOR_ASSERT_(sizeof(compressor_mutator) == 8 && sizeof(compressor_end) == 8, "handles");
 COMPRESSOR_ASSERT_(sizeof(compressor_survey) == 8 && sizeof(compressor_tables) == 8 && sizeof(compressor_job) == 8,
                    "handles");
-COMPRESSOR_ASSERT_(sizeof(compressor_looks) == 8 && sizeof(compressor_pages) == 8, "handles");
+COMPRESSOR_ASSERT_(sizeof(compressor_marking) == 8 && sizeof(compressor_looks) == 8, "handles");
+COMPRESSOR_ASSERT_(sizeof(compressor_lane) == 8 && sizeof(compressor_pages) == 8, "handles");
 COMPRESSOR_ASSERT_(sizeof(compressor_answer) == 16 && offsetof(compressor_answer, other) == 4, "answer");
 COMPRESSOR_ASSERT_(offsetof(compressor_answer, value) == 8, "answer");
 COMPRESSOR_ASSERT_(sizeof(compressor_entry) == 24 && offsetof(compressor_entry, writer) == 16, "entry");

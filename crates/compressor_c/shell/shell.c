@@ -74,6 +74,16 @@ CALL(looks_meet, (compressor_looks *looks, const uint64_t *values, size_t value_
      (looks, IN(values, value_count), value_count))
 CALL(looks_finish, (compressor_looks *looks, const uint64_t *roots, size_t root_count, compressor_survey *survey),
      (looks, IN(roots, root_count), root_count, survey))
+CALL(looks_check, (compressor_looks *looks, const uint64_t *words, size_t word_count),
+     (looks, IN(words, word_count), word_count))
+CALL(lane_waiting, (compressor_lane *lane, uint64_t *indices, size_t most), (lane, OUT(indices, most), most))
+CALL(lane_meet, (compressor_lane *lane, const uint64_t *values, size_t value_count),
+     (lane, IN(values, value_count), value_count))
+CALL(lane_look, (compressor_lane *lane, const uint64_t *rows, size_t row_words),
+     (lane, IN(rows, row_words), row_words))
+CALL(lane_give, (compressor_lane *lane, uint64_t *indices, size_t most), (lane, OUT(indices, most), most))
+CALL(lane_take, (compressor_lane *lane, const uint64_t *indices, size_t index_count),
+     (lane, IN(indices, index_count), index_count))
 CALL(pages_build,
      (compressor_pages *pages, const uint64_t *words, size_t word_count, uint64_t *page, size_t page_count),
      (pages, IN(words, word_count), word_count, OUT(page, page_count), page_count))
@@ -81,6 +91,16 @@ CALL(job_begin,
      (uint32_t edition, const uint64_t *words, size_t word_count, const uint64_t *roots, size_t root_count,
       compressor_job *job),
      (edition, IN(words, word_count), word_count, IN(roots, root_count), root_count, job))
+CALL(marking_begin,
+     (uint32_t edition, uint64_t word_count, const uint64_t *roots, size_t root_count, compressor_marking *marking),
+     (edition, word_count, IN(roots, root_count), root_count, marking))
+CALL(marking_help, (compressor_marking *marking, const uint64_t *words, size_t word_count, uint64_t who),
+     (marking, IN(words, word_count), word_count, who))
+CALL(marking_meet, (compressor_marking *marking, const uint64_t *values, size_t value_count),
+     (marking, IN(values, value_count), value_count))
+CALL(marking_finish,
+     (compressor_marking *marking, const uint64_t *roots, size_t root_count, compressor_survey *survey),
+     (marking, IN(roots, root_count), root_count, survey))
 CALL(heap_by_marks,
      (uint32_t edition, const uint64_t *words, size_t word_count, const uint32_t *marks, size_t mark_count,
       const uint64_t *roots, size_t root_count, compressor_heap *heap),

@@ -1,6 +1,7 @@
 //! Exports for a marking of a heap while its threads go on, by looks at one object after the other.
 ghost use Rattle.std.specs.Prelude.{◌≡◌, None};
 ghost use Rattle.comp_handle.specs.HandleKinds.{looks_in, Asks};
+ghost use Rattle.comp_handle.specs.Lanes.{Checks};
 ghost use Rattle.comp_handle.specs.Looking.{LooksAgain, LooksAtRows, MeetsValues};
 ghost use Rattle.comp_handle.specs.Looks.{BeginsLooks, CopiesWaiting, EndsLooks};
 
@@ -79,6 +80,19 @@ pub extern "C" fn compressor_c_looks_finish(
     ensures { EndsLooks roots.now looks.old.kept looks.new.kept survey.old.kept survey.new.kept result }
 {
     comp_handle::finish_looks(alloc, looks, roots, survey)
+}
+
+/// Asks of all objects that were looked at whether they are in these words as they must be.
+#[unsafe(no_mangle)]
+pub extern "C" fn compressor_c_looks_check(
+    alloc: Global,
+    looks: &mut Handle,
+    words: &[u64],
+) -> Answer
+    ensures same { looks.new.kept ≡ looks.old.kept }
+    ensures checks { Asks 0 looks_in (Checks words.now) (Unit {0}) looks.old.kept result }
+{
+    comp_handle::check_looks(alloc, looks, words)
 }
 
 /// Drops a marking. Its handle is empty then.

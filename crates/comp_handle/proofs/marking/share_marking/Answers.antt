@@ -1,0 +1,26 @@
+use Rattle.std.proofs.Common.{◌≡◌, ◌⊎◌, inl, Option, Some, None, MatchOption, ap, refl, subst, sym}
+use Rattle.comp_handle.specs.Answers.{bare, done}
+use Rattle.comp_handle.specs.HandleKinds.{marking_in}
+use Rattle.comp_handle.specs.Knowing.{knowing, Knowing}
+use Rattle.comp_handle.specs.Marking.{KeepsMarking, KnowsBegun, SharesMarking}
+use Rattle.comp_handle.specs.declared.answer.Answer.{Answer}
+use Rattle.comp_handle.specs.declared.kept.Kept.{Kept}
+use Rattle.comp_handle.specs.declared.kept.Kept.TheVariants as kept
+use Rattle.comp_handle.specs.declared.marker.Marker.{Marker}
+use Rattle.comp_handle.proofs.Turned.{empty_of}
+use Rattle.comp_handle.proofs.marking.share_marking.Goals as goal
+
+-- a share of what was kept is kept
+shared : (N : Type 0) (o : Option Knowing) (own : Marker) (now : Option Kept) (a : Answer) → MatchOption o ⊥ (λ m. KnowsBegun m.begun (knowing own))
+    → now ≡ Some (kept.Marking own) → a ≡ done 0 → MatchOption o N (λ m. (KeepsMarking m.begun now × (a ≡ done 0)) ⊎ ((now ≡ None) × (a ≡ bare 9 0)))
+shared N None own now a h is d = absurd h
+shared N (Some m) own now a h is d = inl ((knowing own, ap marking_in is, h), d)
+
+pub returns-then-keep-clause-shares : goal.returns-then-keep-clause-shares
+returns-then-keep-clause-shares c =
+    let from = c.args.h.now.kept in
+    let to = c.args.other.now.kept in
+    let now = c.keep.new.h.kept in
+    subst (λ (o : Option Kept). SharesMarking from o now c.done.result)
+    (sym (empty_of c.is_full-full.result to to c.is_full-full.ensures.full refl c.in-Ok.ensures.free))
+    (shared _ (marking_in from) c.in-Ok.own now c.done.result c.in-Ok.ensures.knows c.if-keep.ensures c.done.ensures)
