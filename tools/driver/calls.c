@@ -34,7 +34,7 @@ static void look_away(void) {}
 static void look_again(void) {}
 #endif
 
-enum memory { NONE, MEMORY, GOES, QUIET };
+enum memory { NONE, MEMORY, GOES, QUIET, LATE };
 
 static const struct {
     const char *name;
@@ -47,6 +47,7 @@ static const struct {
 
 _Thread_local thread_state own;
 static uint64_t counts[EXPORTS], refusals[EXPORTS], made, kept, busy;
+static int is_late; /* a helper had no memory, and the end says so */
 static uint64_t seed_now, round_now;
 
 uint64_t calls_made(void) { return __atomic_load_n(&made, __ATOMIC_RELAXED); }
@@ -92,6 +93,7 @@ void call_ends(void) {
     own.is_in_call = 0;
     add(&counts[own.export]);
     add(&made);
+    if (exports[own.export].memory == LATE && own.was_refused) __atomic_store_n(&is_late, 1, __ATOMIC_SEQ_CST);
     if (exports[own.export].memory == NONE && own.allocations > 0)
         fail(own.file, own.line, "it asked for memory %llu times", (unsigned long long)own.allocations);
 }
@@ -106,6 +108,7 @@ int call_again(compressor_answer a) {
         return 1;
     }
     if (a.status != COMPRESSOR_OUT_OF_MEMORY) return 0;
+    if (exports[own.export].memory == GOES && __atomic_exchange_n(&is_late, 0, __ATOMIC_SEQ_CST)) return 0;
     if (!own.was_refused) fail(own.file, own.line, "OUT_OF_MEMORY, and no allocation was refused");
     if (exports[own.export].memory == GOES) return 0;
     if (exports[own.export].memory != MEMORY) fail(own.file, own.line, "OUT_OF_MEMORY, of a call that never says so");

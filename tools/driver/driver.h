@@ -6,7 +6,8 @@
      heaps.c     marked heaps and plans, and what they refuse; judge.c what another collector left of them
      cycle.c     flips, crews and mutators by one thread; act.c has what a mutator is asked
      end.c       finished cycles, next heaps
-     rest.c      heaps at rest; looks.c their marking by looks; pages.c their slides by pages; faults.c what is refused
+     rest.c      heaps at rest; looks.c their marking by looks, lanes.c by lanes at first; pages.c their slides by
+                 pages; faults.c what is refused
      handles.c   empty, full and wrong handles; limits.c editions: shapes, immediates, what is too large
      threads.c   a cycle by four threads; together.c what else they do together */
 #ifndef DRIVER_H
@@ -216,6 +217,23 @@ void cycle_next(cycle *c, compressor_heap *heap);
 uint64_t *cycle_rest(cycle *c);
 
 void rest_round(graph *g, uint64_t *words, uint64_t count);
+/* What looks.c and lanes.c have of a marking by looks. */
+typedef struct marking {
+    compressor_space space;
+    compressor_looks looks;
+    const uint64_t *roots;
+    size_t root_count;
+    const uint64_t *heads; /* bits of the live objects; null if the heap has a fault */
+    uint64_t *rows, room;  /* where rows are copied */
+    uint64_t *old, old_count; /* the objects that were handed in as they were before */
+    int is_stopped;        /* the threads write no more */
+} marking;
+/* Copies the row of an object, as it is or was. Answers its words, or 0 if there is no room. */
+uint64_t copy_row(marking *m, uint64_t index, uint64_t first);
+/* Begins a marking from some roots by several lanes, which look at some objects, and are joined. Answers as its last
+   step does; if that is refused, nothing is kept. */
+compressor_answer begin_by_lanes(marking *m);
+void refuse_lanes(marking *m, uint64_t index); /* steps of a lane in which this object waits */
 /* A marking by looks, of a heap whose live objects begin at these bits; none are handed in if it has a fault. Answers
    as its last step does. */
 compressor_answer survey_by_looks(uint32_t edition, uint64_t *words, uint64_t count, const uint64_t *roots,

@@ -85,11 +85,42 @@ static void mark_faulty(const faulty *f) {
     free(live);
 }
 
+/* A marking in steps sees sizes alone. A reference is for the slide. */
+static void mark_faulty_in_steps(const faulty *f) {
+    compressor_marking marking = COMPRESSOR_EMPTY;
+    compressor_survey survey = COMPRESSOR_EMPTY;
+    compressor_answer a;
+    uint64_t *to;
+    if (f->g->edition < 3 || f->status == COMPRESSOR_BAD_WEAK) return;
+    if (f->status == COMPRESSOR_BAD_ROOT) {
+        ANSWERS(COMPRESSOR_BAD_ROOT, f->number, marking_begin, f->g->edition, f->count, f->roots, f->root_count,
+                &marking);
+        return;
+    }
+    do {
+        DONE(0, marking_begin, f->g->edition, f->count, f->roots, f->root_count, &marking);
+        do CALL(a, marking_help, &marking, f->words, f->count, 1);
+        while (a.value != COMPRESSOR_HELP_DONE);
+        CALL(a, marking_finish, &marking, f->roots, f->root_count, &survey);
+    } while (a.status == COMPRESSOR_OUT_OF_MEMORY);
+    if (is_size(f->status)) {
+        answers(a, COMPRESSOR_BAD_OBJECT, a.value, 0);
+        IS(object_at(f->g, a.value) != NULL);
+        return;
+    }
+    answers(a, COMPRESSOR_DONE, a.value, 0);
+    to = (uint64_t *)zeros(a.value, sizeof *to);
+    ANSWERS(COMPRESSOR_UNMARKED, f->number, survey_slide, &survey, f->words, f->count, 0, to, a.value);
+    DROP(survey_drop, &survey);
+    free(to);
+}
+
 static void refuse(faulty *f, uint32_t status, uint64_t number) {
     f->status = status;
     f->number = number;
     collect_faulty(f, below(8));
     if (one_in(2)) mark_faulty(f);
+    if (one_in(2)) mark_faulty_in_steps(f);
 }
 
 /* A live object, or none. */

@@ -13,7 +13,9 @@ typedef struct all {
     compressor_survey survey, survey_share;
     compressor_tables tables;
     compressor_job job, job_share;
+    compressor_marking marking, marking_share;
     compressor_looks looks;
+    compressor_lane lane, lane_share;
     compressor_pages pages, pages_share;
     uint64_t words[64];
     uint32_t marks[1];
@@ -41,11 +43,24 @@ static void ask_empty(all *a) {
     EMPTY(job_share, &a->job, &a->job_share);
     EMPTY(job_help, &a->job, 1);
     EMPTY(job_finish, &a->job, &a->survey);
+    EMPTY(marking_share, &a->marking, &a->marking_share);
+    EMPTY(marking_help, &a->marking, a->words, 1, 1);
+    EMPTY(marking_meet, &a->marking, a->words, 1);
+    EMPTY(marking_finish, &a->marking, a->words, 1, &a->survey);
     EMPTY(looks_waiting, &a->looks, a->words, 1);
     EMPTY(looks_look, &a->looks, a->words, 1);
     EMPTY(looks_again, &a->looks, 0, a->words, 1);
     EMPTY(looks_meet, &a->looks, a->words, 1);
     EMPTY(looks_finish, &a->looks, a->words, 1, &a->survey);
+    EMPTY(looks_check, &a->looks, a->words, 1);
+    EMPTY(lane_share, &a->lane, &a->lane_share);
+    EMPTY(lane_waiting, &a->lane, a->words, 1);
+    EMPTY(lane_meet, &a->lane, a->words, 1);
+    EMPTY(lane_look, &a->lane, a->words, 1);
+    EMPTY(lane_give, &a->lane, a->words, 1);
+    EMPTY(lane_take, &a->lane, a->words, 1);
+    EMPTY(lane_join, &a->lane, &a->lane_share);
+    EMPTY(lane_whole, &a->lane, &a->looks);
     EMPTY(pages_begin, &a->survey, 0, &a->pages);
     EMPTY(pages_share, &a->pages, &a->pages_share);
     EMPTY(pages_claim, &a->pages, 0);
@@ -106,7 +121,11 @@ static void drop_all(all *a) {
     DROP(tables_drop, &a->tables);
     DROP(job_drop, &a->job);
     DROP(job_drop, &a->job_share);
+    DROP(marking_drop, &a->marking);
+    DROP(marking_drop, &a->marking_share);
     DROP(looks_drop, &a->looks);
+    DROP(lane_drop, &a->lane);
+    DROP(lane_drop, &a->lane_share);
     DROP(pages_drop, &a->pages);
     DROP(pages_drop, &a->pages_share);
 }
@@ -138,7 +157,13 @@ static void ask_full(all *a, compressor_heap *heap) {
     DONE(0, survey_share, &a->survey, &a->survey_share);
     DONE(0, job_begin, 4, a->words, 3, a->words, 0, &a->job);
     DONE(0, job_share, &a->job, &a->job_share);
+    DONE(0, marking_begin, 4, 3, a->words, 0, &a->marking);
+    DONE(0, marking_share, &a->marking, &a->marking_share);
     DONE(0, looks_begin, 4, 3, a->words, 0, &a->looks);
+    DONE(0, lane_begin, 4, 3, &a->lane);
+    ANSWERS(COMPRESSOR_EMPTY_HANDLE, 1, lane_join, &a->lane, &a->lane_share);
+    EMPTY(lane_join, &a->lane_share, &a->lane);
+    DONE(0, lane_share, &a->lane, &a->lane_share);
     DONE(0, pages_begin, &a->survey, 1, &a->pages);
     DONE(0, pages_share, &a->pages, &a->pages_share);
     DONE(0, survey_by_roots, 4, a->words, 3, a->words, 0, &a->survey);
@@ -161,8 +186,14 @@ static void ask_full(all *a, compressor_heap *heap) {
     FULL(0, job_begin, 9, a->words, 3, a->words, 0, &a->job);
     FULL(1, job_share, &a->job, &a->job_share);
     FULL(1, job_finish, &a->job, &a->survey);
+    FULL(0, marking_begin, 9, 3, a->words, 0, &a->marking);
+    FULL(1, marking_share, &a->marking, &a->marking_share);
+    FULL(1, marking_finish, &a->marking, a->words, 0, &a->survey);
     FULL(0, looks_begin, 9, 3, a->words, 0, &a->looks);
     FULL(1, looks_finish, &a->looks, a->words, 0, &a->survey);
+    FULL(0, lane_begin, 9, 3, &a->lane);
+    FULL(1, lane_share, &a->lane, &a->lane_share);
+    FULL(1, lane_whole, &a->lane, &a->looks);
     FULL(1, pages_begin, &a->survey, 0, &a->pages);
     FULL(1, pages_share, &a->pages, &a->pages_share);
     FULL(1, pages_end, &a->pages, &a->survey);
@@ -173,9 +204,24 @@ static void ask_full(all *a, compressor_heap *heap) {
     WRONG(heap_facts_of, (compressor_heap *)(void *)&a->plan, &a->heap_facts);
     WRONG(mutator_touch, (compressor_mutator *)(void *)&a->crew, 0);
     WRONG(survey_return, (compressor_survey *)(void *)&a->job, &(compressor_tables)COMPRESSOR_EMPTY);
+    WRONG(marking_share, (compressor_marking *)(void *)&a->job, &(compressor_marking)COMPRESSOR_EMPTY);
+    WRONG(marking_help, (compressor_marking *)(void *)&a->looks, a->words, 3, 1);
+    WRONG(marking_meet, (compressor_marking *)(void *)&a->looks, a->words, 1);
+    WRONG(marking_finish, (compressor_marking *)(void *)&a->job, a->words, 0, &(compressor_survey)COMPRESSOR_EMPTY);
+    WRONG(job_finish, (compressor_job *)(void *)&a->marking, &(compressor_survey)COMPRESSOR_EMPTY);
     WRONG(looks_waiting, (compressor_looks *)(void *)&a->job, a->words, 1);
     WRONG(looks_look, (compressor_looks *)(void *)&a->job, a->words, 1);
     WRONG(looks_finish, (compressor_looks *)(void *)&a->pages, a->words, 0, &(compressor_survey)COMPRESSOR_EMPTY);
+    WRONG(looks_check, (compressor_looks *)(void *)&a->lane, a->words, 3);
+    WRONG(lane_share, (compressor_lane *)(void *)&a->looks, &(compressor_lane)COMPRESSOR_EMPTY);
+    WRONG(lane_waiting, (compressor_lane *)(void *)&a->looks, a->words, 1);
+    WRONG(lane_meet, (compressor_lane *)(void *)&a->looks, a->words, 1);
+    WRONG(lane_look, (compressor_lane *)(void *)&a->job, a->words, 1);
+    WRONG(lane_give, (compressor_lane *)(void *)&a->looks, a->words, 1);
+    WRONG(lane_take, (compressor_lane *)(void *)&a->pages, a->words, 1);
+    WRONG(lane_join, (compressor_lane *)(void *)&a->looks, &a->lane);
+    WRONG(lane_whole, (compressor_lane *)(void *)&a->job, &(compressor_looks)COMPRESSOR_EMPTY);
+    ANSWERS(COMPRESSOR_WRONG_HANDLE, 1, lane_join, &a->lane, (compressor_lane *)(void *)&a->looks);
     WRONG(pages_claim, (compressor_pages *)(void *)&a->survey, 0);
     WRONG(pages_begin, (compressor_survey *)(void *)&a->pages, 1, &(compressor_pages)COMPRESSOR_EMPTY);
     WRONG(pages_end, (compressor_pages *)(void *)&a->job, &(compressor_survey)COMPRESSOR_EMPTY);
@@ -192,12 +238,16 @@ static void ask_full(all *a, compressor_heap *heap) {
 }
 
 void handles_round(void) {
+    static const char version_line[] = "compressor " COMPRESSOR_VERSION_TEXT "\n";
     const compressor_heap none = COMPRESSOR_EMPTY;
     compressor_heap heap = none;
     all *a = (all *)zeros(1, sizeof *a);
     uint8_t *before = (uint8_t *)zeros(1, sizeof *a);
     call_begins(EXPORT_version, __FILE__, __LINE__);
     SAME(compressor_version(), COMPRESSOR_VERSION);
+    call_ends();
+    call_begins(EXPORT_version_text, __FILE__, __LINE__);
+    IS(strncmp(compressor_version_text(), version_line, sizeof version_line - 1) == 0);
     call_ends();
     /* first all handles are empty, and nothing is written anywhere */
     a->words[1] = 5;

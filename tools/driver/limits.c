@@ -65,7 +65,9 @@ void limits_round(void) {
     compressor_survey survey = COMPRESSOR_EMPTY;
     compressor_tables tables = COMPRESSOR_EMPTY;
     compressor_job job = COMPRESSOR_EMPTY;
+    compressor_marking marking = COMPRESSOR_EMPTY;
     compressor_looks looks = COMPRESSOR_EMPTY;
+    compressor_lane lane = COMPRESSOR_EMPTY;
     compressor_end end = COMPRESSOR_EMPTY;
     uint32_t marks[1] = {0};
     DONE(0, tables_reserve, 2, &tables);
@@ -81,8 +83,13 @@ void limits_round(void) {
         ANSWERS(COMPRESSOR_TOO_LARGE, 0, survey_by_marks, edition, words, 2, roots, ROOTS, words, 1, &survey);
         ANSWERS(COMPRESSOR_BAD_EDITION, edition, survey_by_bits, edition, 2, roots, ROOTS, words, 1, words, 1, &survey);
         ANSWERS(COMPRESSOR_TOO_LARGE, 0, survey_by_bits, edition + 2, too_many, roots, 1, words, 1, words, 1, &survey);
+        ANSWERS(COMPRESSOR_BAD_EDITION, edition, marking_begin, edition, too_many, roots, ROOTS, &marking);
+        ANSWERS(COMPRESSOR_TOO_LARGE, 0, marking_begin, edition + 2, too_many, roots, 1, &marking);
         ANSWERS(COMPRESSOR_BAD_EDITION, edition, looks_begin, edition, too_many, roots, ROOTS, &looks);
         ANSWERS(COMPRESSOR_TOO_LARGE, 0, looks_begin, edition + 2, too_many, roots, 1, &looks);
+        ANSWERS(COMPRESSOR_BAD_EDITION, edition, lane_begin, edition, too_many, &lane);
+        ANSWERS(COMPRESSOR_BAD_EDITION, edition + 4, lane_begin, edition + 4, too_many, &lane);
+        ANSWERS(COMPRESSOR_TOO_LARGE, 0, lane_begin, edition + 2, too_many, &lane);
         ANSWERS(COMPRESSOR_TOO_LARGE, 0, job_begin, edition, words, 2, roots, ROOTS, &job);
         DONE(0, heap_by_roots, edition + 2, words, 2, roots, ROOTS, &heap);
         DROP(heap_drop, &heap);

@@ -1,23 +1,11 @@
 /* A marking by looks: objects are handed in as they were before threads wrote to them, with null in place of some
    references, and some roots are not there yet. What was handed in so is looked at again, and all roots are met; then
-   what was looked at is what the roots reach. */
+   what was looked at is what the roots reach. It begins by lanes now and then. */
 #include "driver.h"
 
 #include <stdlib.h>
 
-typedef struct marking {
-    compressor_space space;
-    compressor_looks looks;
-    const uint64_t *roots;
-    size_t root_count;
-    const uint64_t *heads; /* bits of the live objects; null if the heap has a fault */
-    uint64_t *rows, room;  /* where rows are copied */
-    uint64_t *old, old_count; /* the objects that were handed in as they were before */
-    int is_stopped;        /* the threads write no more */
-} marking;
-
-/* Copies the row of an object, as it is or was. Answers its words, or 0 if there is no room. */
-static uint64_t copy(marking *m, uint64_t index, uint64_t first) {
+uint64_t copy_row(marking *m, uint64_t index, uint64_t first) {
     const uint64_t words = compressor_copy_row(&m->space, FROM + index, m->rows + first, m->room - first);
     const compressor_shape shape = compressor_shape_of(m->space.edition, m->space.words[index]);
     if (words > m->room - first) return 0;
@@ -51,7 +39,7 @@ static compressor_answer look_at_some(marking *m, uint64_t *waits) {
     while (many < *waits) {
         uint64_t row;
         IS(indices[many] < m->space.room && (!m->heads || compressor_is_marked(m->heads, FROM + indices[many])));
-        row = copy(m, indices[many], words);
+        row = copy_row(m, indices[many], words);
         if (row == 0) break;
         words += row;
         many++;
@@ -75,12 +63,12 @@ static compressor_answer meet_all(marking *m) {
     uint64_t words;
     m->is_stopped = 1;
     for (uint64_t k = 0; k < m->old_count; k++) {
-        words = copy(m, m->old[k], 0);
+        words = copy_row(m, m->old[k], 0);
         CALL(a, looks_again, &m->looks, m->old[k], m->rows, words);
         if (says_waiting(m, a).status != COMPRESSOR_DONE) return a;
     }
     for (uint64_t i = 0; m->heads && i < m->space.room; i += 1 + below(m->space.room)) {
-        words = copy(m, i, 0);
+        words = copy_row(m, i, 0);
         if (compressor_is_marked(m->heads, FROM + i)) {
             CALL(a, looks_again, &m->looks, i, m->rows, words);
             if (a.status == COMPRESSOR_NO_SUCH_OBJECT) answers(a, COMPRESSOR_NO_SUCH_OBJECT, i, 0);
@@ -105,13 +93,35 @@ static void refuse_end(marking *m, compressor_survey *survey) {
     else IS(next[0] == 5);
 }
 
+/* Whether no other object is met by this one's row. */
+static int is_leaf(const marking *m, uint64_t index) {
+    return compressor_shape_of(m->space.edition, m->space.words[index]).refs == 0;
+}
+
+/* What was looked at is so in the words; in others it is not. */
+static void check(marking *m) {
+    const uint64_t count = m->space.room;
+    DONE(0, looks_check, &m->looks, m->space.words, count);
+    if (count > 0) ANSWERS(COMPRESSOR_WRONG_LENGTH, 0, looks_check, &m->looks, m->space.words, count - 1);
+    for (uint64_t i = below(count + 1); i < count; i++) {
+        uint64_t was;
+        if (!compressor_is_marked(m->heads, FROM + i) || is_leaf(m, i)) continue;
+        was = m->space.words[i + 1];
+        m->space.words[i + 1] = FROM + count;
+        ANSWERS(COMPRESSOR_UNMARKED, i + 1, looks_check, &m->looks, m->space.words, count);
+        m->space.words[i + 1] = was;
+        return;
+    }
+}
+
 static compressor_answer mark(marking *m, compressor_survey *survey) {
     compressor_answer a;
     uint64_t waits;
     m->is_stopped = 0;
     m->old_count = 0;
-    CALL(a, looks_begin, m->space.edition, m->space.room, m->roots, below(m->root_count + 1), &m->looks);
-    says_waiting(m, a);
+    if (one_in(2)) a = begin_by_lanes(m);
+    else CALL(a, looks_begin, m->space.edition, m->space.room, m->roots, below(m->root_count + 1), &m->looks);
+    if (a.status == COMPRESSOR_DONE) says_waiting(m, a);
     for (uint64_t times = below(30); a.status == COMPRESSOR_DONE && times > 0; times--) a = look_at_some(m, &waits);
     if (a.status == COMPRESSOR_DONE) a = meet_all(m);
     if (a.status != COMPRESSOR_DONE) return a;
@@ -119,6 +129,7 @@ static compressor_answer mark(marking *m, compressor_survey *survey) {
     if (one_in(8)) own.refuse_next = 1;
     a = look_at_all(m);
     if (a.status != COMPRESSOR_DONE) return a;
+    if (m->heads && one_in(2)) check(m);
     if (one_in(3)) own.refuse_next = 1 + below(4);
     CALL(a, looks_finish, &m->looks, m->roots, m->root_count, survey);
     return a;
@@ -130,7 +141,7 @@ static void refuse_step(marking *m, uint64_t index, uint64_t how) {
     compressor_survey survey = COMPRESSOR_EMPTY;
     uint64_t words;
     m->is_stopped = 1;
-    words = copy(m, index, 0);
+    words = copy_row(m, index, 0);
     DONE(how != 3, looks_begin, m->space.edition, m->space.room, root, how == 3 ? 0 : 1, &m->looks);
     if (how == 0) ANSWERS(COMPRESSOR_TOO_SHORT, words, looks_look, &m->looks, m->rows, words - 1);
     if (how == 1) ANSWERS(COMPRESSOR_TOO_SHORT, words, looks_again, &m->looks, index, m->rows, words - 1);
@@ -143,17 +154,13 @@ static void refuse_step(marking *m, uint64_t index, uint64_t how) {
     ANSWERS(COMPRESSOR_EMPTY_HANDLE, 0, looks_waiting, &m->looks, m->rows, 1);
 }
 
-/* Whether no other object is met by this one's row. */
-static int is_leaf(const marking *m, uint64_t index) {
-    return compressor_shape_of(m->space.edition, m->space.words[index]).refs == 0;
-}
-
 /* Steps that are refused, of a live object whose row has more words than the header, or none. */
 static void refuse_steps(marking *m) {
     for (uint64_t i = 0; i < m->space.room; i++) {
         if (!compressor_is_marked(m->heads, FROM + i) || !one_in(3)) continue;
-        if (copy(m, i, 0) > 1) refuse_step(m, i, below(2));
+        if (copy_row(m, i, 0) > 1) refuse_step(m, i, below(2));
         refuse_step(m, i, is_leaf(m, i) ? 2 + below(3) : 2 + below(2));
+        refuse_lanes(m, i);
         return;
     }
 }

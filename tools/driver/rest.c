@@ -220,6 +220,41 @@ static void survey_by_job(rest *r, compressor_survey *survey) {
     ANSWERS(COMPRESSOR_EMPTY_HANDLE, 0, job_help, &job, 0);
 }
 
+/* The same in steps, over words that are lent. Some roots are met later. */
+static void survey_by_marking(rest *r, compressor_survey *survey) {
+    compressor_marking marking = COMPRESSOR_EMPTY, share = COMPRESSOR_EMPTY;
+    const uint32_t edition = r->g->edition;
+    const uint64_t astray[2] = {0, FROM + r->count};
+    const size_t roots = r->g->root_count;
+    compressor_answer a;
+    if (edition < 3) {
+        ANSWERS(COMPRESSOR_BAD_EDITION, edition, marking_begin, edition, r->count, r->roots, roots, &marking);
+        DONE(r->live, survey_by_roots, HEAP, survey);
+        return;
+    }
+    do {
+        DONE(0, marking_begin, edition, r->count, r->roots, below(roots + 1), &marking);
+        DONE(0, marking_share, &marking, &share);
+        ANSWERS(COMPRESSOR_STILL_SHARED, 0, marking_finish, &marking, r->roots, roots, survey);
+        if (r->count > 0) ANSWERS(COMPRESSOR_WRONG_LENGTH, 0, marking_help, &share, r->words, r->count - 1, 0);
+        for (uint64_t helps = below(30); helps > 0; helps--) {
+            CALL(a, marking_help, one_in(2) ? &marking : &share, r->words, r->count, below(4));
+            answers(a, COMPRESSOR_DONE, a.value, 0);
+            IS(a.value <= COMPRESSOR_HELP_IDLE);
+        }
+        DONE(0, marking_meet, one_in(2) ? &marking : &share, r->roots, roots);
+        ANSWERS(COMPRESSOR_BAD_ROOT, 1, marking_meet, &marking, astray, 2);
+        DROP(marking_drop, &share);
+        if (one_in(4)) own.refuse_next = 1 + below(3);
+        do CALL(a, marking_help, &marking, r->words, r->count, any_word());
+        while (a.value != COMPRESSOR_HELP_DONE);
+        if (one_in(4)) own.refuse_next = 1 + below(3);
+        CALL(a, marking_finish, &marking, r->roots, roots, survey);
+        ANSWERS(COMPRESSOR_EMPTY_HANDLE, 0, marking_help, &marking, r->words, r->count, 0);
+    } while (a.status == COMPRESSOR_OUT_OF_MEMORY); /* then the marking is gone, and the survey is empty */
+    answers(a, COMPRESSOR_DONE, r->live, 0);
+}
+
 /* Some roots as roots, and all of them guarded: together these hold what all roots do. */
 static void survey_with_guards(rest *r, compressor_survey *survey) {
     size_t count = r->g->root_count, some = below(count + 1);
@@ -300,6 +335,7 @@ static void collect_by_survey(rest *r, uint64_t how, const bits *b) {
     if (how == 7) survey_by_job(r, &survey);
     if (how == 8) survey_by_bits(r, b, &survey);
     if (how == 9) answers(survey_by_looks(HEAP, b->heads, &survey), COMPRESSOR_DONE, r->live, 0);
+    if (how == 10) survey_by_marking(r, &survey);
     ask_survey(r, &survey);
     if (one_in(4)) ask_another(r);
     slide_parts(r, &survey);
@@ -334,7 +370,7 @@ static bits bits_of(const rest *r) {
 void rest_round(graph *g, uint64_t *words, uint64_t count) {
     rest all = {g, words, count, NULL, NULL, NULL, NULL, 0}, *r = &all;
     for (uint64_t times = 1 + below(8); times > 0; times--) {
-        const uint64_t how = below(10);
+        const uint64_t how = below(11);
         bits b;
         go_on(r);
         expect(r, how == 5 || how == 8);

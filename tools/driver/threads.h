@@ -19,6 +19,7 @@ typedef struct worker {
     compressor_plan plan; /* shares of its own */
     compressor_survey survey;
     compressor_job job;
+    compressor_marking marking;
     compressor_pages pages;
     /* a cycle: it has each fourth of the slid objects, and those that it made, which are numbered from `first` on */
     size_t slid, first, made;

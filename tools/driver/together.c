@@ -56,6 +56,25 @@ static void *help(void *given) {
     return NULL;
 }
 
+/* The same with words that are lent. */
+static void *help_in_steps(void *given) {
+    worker *w = (worker *)given;
+    const uint64_t who = one_in(4) ? 0 : w->number, value[1] = {0};
+    compressor_answer a;
+    begin_thread(w);
+    do {
+        CALL(a, marking_help, &w->marking, w->words, w->count, who);
+        answers(a, COMPRESSOR_DONE, a.value, 0);
+        if (one_in(9)) {
+            CALL(a, marking_meet, &w->marking, value, 1);
+            if (a.status != COMPRESSOR_MARKERS_BUSY) answers(a, COMPRESSOR_DONE, 0, 0);
+            a.value = COMPRESSOR_HELP_WORKED;
+        }
+    } while (a.value != COMPRESSOR_HELP_DONE && !one_in(200));
+    DROP(marking_drop, &w->marking);
+    return NULL;
+}
+
 static void *slide(void *given) {
     worker *w = (worker *)given;
     size_t count;
@@ -83,6 +102,30 @@ static void mark_together(graph *g, const uint64_t *words, uint64_t count, const
     ANSWERS(COMPRESSOR_STILL_SHARED, 0, job_finish, &job, survey);
     run_threads(workers, help);
     DONE(live, job_finish, &job, survey);
+}
+
+/* Some roots are met after the threads. If a helper had no memory, all begins again. */
+static void mark_in_steps(graph *g, const uint64_t *words, uint64_t count, const uint64_t *roots, uint64_t live,
+                          compressor_survey *survey) {
+    compressor_answer a;
+    do {
+        worker workers[THREADS];
+        compressor_marking marking = COMPRESSOR_EMPTY;
+        memset(workers, 0, sizeof workers);
+        DONE(0, marking_begin, g->edition, count, roots, below(g->root_count + 1), &marking);
+        for (int k = 0; k < THREADS; k++) {
+            workers[k].words = words;
+            workers[k].count = count;
+            DONE(0, marking_share, &marking, &workers[k].marking);
+        }
+        ANSWERS(COMPRESSOR_STILL_SHARED, 0, marking_finish, &marking, roots, g->root_count, survey);
+        run_threads(workers, help_in_steps);
+        DONE(0, marking_meet, &marking, roots, g->root_count);
+        do CALL(a, marking_help, &marking, words, count, 0);
+        while (a.value != COMPRESSOR_HELP_DONE);
+        CALL(a, marking_finish, &marking, roots, g->root_count, survey);
+    } while (a.status == COMPRESSOR_OUT_OF_MEMORY);
+    answers(a, COMPRESSOR_DONE, live, 0);
 }
 
 /* Touches all pages, from one of its own on. Some turns come to nothing, and the page waits again. */
@@ -143,7 +186,8 @@ void rest_by_threads(graph *g, uint64_t *words, uint64_t count) {
     memset(workers, 0, sizeof workers);
     graph_trace(g, 0);
     live = live_words(g);
-    mark_together(g, words, count, roots, live, &survey);
+    if (g->edition < 3 || one_in(2)) mark_together(g, words, count, roots, live, &survey);
+    else mark_in_steps(g, words, count, roots, live, &survey);
     graph_slide(g);
     wanted = (uint64_t *)zeros(live, sizeof *wanted);
     to = (uint64_t *)zeros(live, sizeof *to);

@@ -77,11 +77,11 @@
 //!
 //! # Handles
 //!
-//! [`Heap`], [`Plan`], [`Crew`], [`Mutator`], [`End`], [`rest::Survey`], [`rest::Tables`], [`rest::Job`] and
-//! [`rest::Pages`] own what the library keeps, and their drop frees it. They go from thread to thread, and are not shared or cloned: where
-//! threads use one thing at the same time, each has a share of its own. A method takes `&mut self`, a read too, since
-//! a handle is used by one call at a time. What a call uses up it takes by value; if it is refused, that comes back
-//! ([`Refused`]).
+//! [`Heap`], [`Plan`], [`Crew`], [`Mutator`], [`End`], [`rest::Survey`], [`rest::Tables`], [`rest::Job`],
+//! [`rest::Marking`], [`rest::Looks`], [`rest::Lane`] and [`rest::Pages`] own what the library keeps, and their drop
+//! frees it. They go from thread to thread, and are not shared or cloned: where threads use one thing at the same time,
+//! each has a share of its own. A method takes `&mut self`, a read too, since a handle is used by one call at a time.
+//! What a call uses up it takes by value; if it is refused, that comes back ([`Refused`]).
 //!
 //! Refusals are numbered by name ([`Refusal`]). `OutOfMemory` may come in place of what is named behind it.
 //!
@@ -128,4 +128,12 @@ pub use value::{Address, Value};
 /// The version of the library that is linked: major * 1,000,000 + minor * 1,000 + patch.
 pub fn version() -> u32 {
     sys::compressor_version()
+}
+
+/// What the library that is linked is, in lines: the first is `compressor` and its version; the others say of what it
+/// was made and what proved it, as far as that was told when it was packed, or that it is not known.
+pub fn version_text() -> &'static str {
+    // SAFETY: the library answers a static text, which ends with 0.
+    let text = unsafe { core::ffi::CStr::from_ptr(sys::compressor_version_text()) };
+    text.to_str().unwrap_or("")
 }

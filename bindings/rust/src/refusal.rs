@@ -185,7 +185,7 @@ refusals! {
     100 FILE_BAD_FIELD FileBadField;
     /// The word with this index, a reference of a live object, leads to none of the words.
     131 BAD_REFERENCE BadReference { index };
-    /// The object at this index has a word with another live object.
+    /// The object at this index has a word with another live object; of lanes: both have the word at this index.
     135 OVERLAP Overlap { index };
     /// The head of a moved heap: 0 its edition, 1 its count of places, 2 that of its roots.
     161 MOVED_WRONG_HEAD MovedWrongHead { part };
@@ -214,11 +214,21 @@ refusals! {
     198 NO_TURN NoTurn;
     /// The page has so many words, and the memory has another number.
     199 OTHER_LENGTH OtherLength { words };
+    /// Too many other threads marked a moment ago: call again.
+    200 MARKERS_BUSY MarkersBusy;
+    /// Objects of a marking wait to be looked at.
+    201 STILL_MARKING StillMarking;
+    /// The object at this index, which a marking met, is too long, ends past the words, or overlaps another one.
+    202 BAD_OBJECT BadObject { index };
     /// There are more rows than objects wait; the index is 0. [`Looks::again`](crate::rest::Looks::again) takes it as
     /// done.
     210 NO_SUCH_OBJECT NoSuchObject { index };
     /// The object at this index waits to be looked at.
     211 STILL_WAITING StillWaiting { index };
+    /// A lane met the object at this index, and it is in none of those that were joined.
+    212 MISSING_OBJECT MissingObject { index };
+    /// The lanes are of two editions, or not of as many words.
+    213 OTHER_HEAP OtherHeap;
     /// A handle of another kind. None is here.
     255 WRONG_HANDLE WrongHandle;
 }

@@ -2,8 +2,9 @@
 //! stands still for a collection.
 //!
 //! A [`Space`] has the words. [`Space::collect`] and its kin are whole collections. In steps a [`Survey`] says which
-//! objects are live, and threads slide parts by shares of it; a [`Job`] is its marking by several threads; [`Tables`]
-//! are room for one, made before it. By [`Pages`] threads go on while the heap slides, by [`Looks`] while it is marked.
+//! objects are live, and threads slide parts by shares of it; a [`Job`] is its marking by several threads, a
+//! [`Marking`] the same with no copy, and in steps; [`Tables`] are room for one, made before it. By [`Pages`] threads
+//! go on while the heap slides, by [`Looks`] while it is marked.
 //!
 //! What the runtime keeps:
 //!
@@ -22,7 +23,9 @@
 mod buffer;
 mod collections;
 mod job;
+mod lane;
 mod looks;
+mod marking;
 mod pages;
 mod space;
 mod survey;
@@ -31,7 +34,9 @@ mod turning;
 
 pub use buffer::{Buffer, CHUNK};
 pub use job::{Help, Job};
+pub use lane::Lane;
 pub use looks::Looks;
+pub use marking::Marking;
 pub use pages::{BuiltPage, Page, Pages};
 pub use space::Space;
 pub use survey::Survey;

@@ -5,7 +5,7 @@
 //! One that takes arrays is not: each is a slice's pointer and its length, or a struct that outlives the call. Slices
 //! of one call that are written overlap no other one, since they are borrowed.
 
-use core::ffi::c_void;
+use core::ffi::{c_char, c_void};
 use core::ptr::null_mut;
 
 /// Handles, each of its kind.
@@ -24,7 +24,7 @@ macro_rules! handles {
     };
 }
 
-handles! { Heap Plan Crew Mutator End Survey Tables Job Looks Pages }
+handles! { Heap Plan Crew Mutator End Survey Tables Job Marking Looks Lane Pages }
 
 /// What each call answers: `status` 0 and the value, or the numbers of a refusal.
 #[repr(C)]
@@ -65,6 +65,7 @@ const _: () = assert!(size_of::<SurveyFacts>() == 8);
 #[rustfmt::skip]
 unsafe extern "C" {
     pub safe fn compressor_version() -> u32;
+    pub safe fn compressor_version_text() -> *const c_char;
 
     pub fn compressor_collect(
         edition: u32, words: *const u64, word_count: usize, roots: *mut u64, root_count: usize,
@@ -117,6 +118,18 @@ unsafe extern "C" {
     pub safe fn compressor_job_finish(job: &mut Job, survey: &mut Survey) -> Answer;
     pub safe fn compressor_job_drop(job: &mut Job);
 
+    pub fn compressor_marking_begin(
+        edition: u32, word_count: u64, roots: *const u64, root_count: usize,
+        marking: &mut Marking) -> Answer;
+    pub safe fn compressor_marking_share(marking: &mut Marking, other: &mut Marking) -> Answer;
+    pub fn compressor_marking_help(
+        marking: &mut Marking, words: *const u64, word_count: usize, who: u64) -> Answer;
+    pub fn compressor_marking_meet(
+        marking: &mut Marking, values: *const u64, value_count: usize) -> Answer;
+    pub fn compressor_marking_finish(
+        marking: &mut Marking, roots: *const u64, root_count: usize, survey: &mut Survey) -> Answer;
+    pub safe fn compressor_marking_drop(marking: &mut Marking);
+
     pub fn compressor_looks_begin(
         edition: u32, word_count: u64, roots: *const u64, root_count: usize,
         looks: &mut Looks) -> Answer;
@@ -129,7 +142,22 @@ unsafe extern "C" {
         looks: &mut Looks, values: *const u64, value_count: usize) -> Answer;
     pub fn compressor_looks_finish(
         looks: &mut Looks, roots: *const u64, root_count: usize, survey: &mut Survey) -> Answer;
+    pub fn compressor_looks_check(
+        looks: &mut Looks, words: *const u64, word_count: usize) -> Answer;
     pub safe fn compressor_looks_drop(looks: &mut Looks);
+
+    pub safe fn compressor_lane_begin(edition: u32, word_count: u64, lane: &mut Lane) -> Answer;
+    pub safe fn compressor_lane_share(lane: &mut Lane, other: &mut Lane) -> Answer;
+    pub fn compressor_lane_waiting(lane: &mut Lane, indices: *mut u64, most: usize) -> Answer;
+    pub fn compressor_lane_meet(
+        lane: &mut Lane, values: *const u64, value_count: usize) -> Answer;
+    pub fn compressor_lane_look(lane: &mut Lane, rows: *const u64, row_words: usize) -> Answer;
+    pub fn compressor_lane_give(lane: &mut Lane, indices: *mut u64, most: usize) -> Answer;
+    pub fn compressor_lane_take(
+        lane: &mut Lane, indices: *const u64, index_count: usize) -> Answer;
+    pub safe fn compressor_lane_join(lane: &mut Lane, other: &mut Lane) -> Answer;
+    pub safe fn compressor_lane_whole(lane: &mut Lane, looks: &mut Looks) -> Answer;
+    pub safe fn compressor_lane_drop(lane: &mut Lane);
 
     pub safe fn compressor_pages_begin(
         survey: &mut Survey, page_words: u64, pages: &mut Pages) -> Answer;

@@ -56,8 +56,13 @@ fn camel(name: &str) -> String {
 
 fn declared_in_c(text: &str) -> Functions {
     let mut found = Functions::new();
-    for (result, own) in [("compressor_answer", "Answer"), ("uint32_t", "u32"), ("void", "")] {
-        for declared in text.split(&format!("\n{result} ")).skip(1) {
+    for (result, own) in [
+        ("compressor_answer ", "Answer"),
+        ("uint32_t ", "u32"),
+        ("const char *", "*const c_char"),
+        ("void ", ""),
+    ] {
+        for declared in text.split(&format!("\n{result}")).skip(1) {
             let (declared, _) = declared.split_once(");").expect("the end of a declaration");
             let (name, given) = declared.split_once('(').expect("parameters");
             let mut types: Vec<String> = parameters(given).map(|it| type_of(&it)).collect();
@@ -161,4 +166,8 @@ fn the_versions_agree() {
     let own = major * 1_000_000 + minor * 1000 + patch;
     let linked = compressor::version();
     assert!(linked >= own && linked / 1_000_000 == major, "{linked}, and this is {own}");
+    let first =
+        compressor::version_text().lines().next().and_then(|it| it.strip_prefix("compressor "));
+    let numbers = first.expect("a version").split('.').map(number);
+    assert_eq!(numbers.fold(0, |all, it| all * 1000 + it), linked);
 }

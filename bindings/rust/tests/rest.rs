@@ -4,7 +4,7 @@ use std::array;
 use std::sync::{Mutex, RwLock};
 use std::thread;
 
-use compressor::rest::{Buffer, Help, Job, Looks, Pages, Space, Survey, Tables, CHUNK};
+use compressor::rest::{Buffer, Help, Job, Looks, Marking, Pages, Space, Survey, Tables, CHUNK};
 use compressor::{Edition, Refusal, Shape, Value};
 
 const THREADS: usize = 4;
@@ -449,6 +449,78 @@ fn a_job_of_a_bad_heap_is_gone() {
     let refused = job.finish().unwrap_err();
     assert_eq!(refused.refusal, Refusal::BadRoot { number: 0 });
     assert!(refused.back.is_none());
+}
+
+/// Helps until nothing is left.
+fn help_all(own: &mut Marking, words: &[u64], who: u64) {
+    while own.help(words, who).unwrap() != Help::Done {}
+}
+
+#[test]
+fn four_threads_mark_what_is_lent() {
+    let (mut space, mut to) = (space(), space());
+    let mut roots = make_lists(&space);
+    let words: &[u64] = space.words();
+    let mut marking = Marking::begin(Edition::Four, words.len() as u64, &roots[..2]).unwrap();
+    let shares: Vec<Marking> = (0..THREADS).map(|_| marking.share().unwrap()).collect();
+    let refused = marking.finish(&roots).unwrap_err();
+    assert_eq!(refused.refusal, Refusal::StillShared);
+    thread::scope(|scope| {
+        for (who, mut own) in (0..).zip(shares) {
+            scope.spawn(move || help_all(&mut own, words, who));
+        }
+    });
+    let mut marking = refused.back.expect("the marking comes back");
+    marking.meet(&roots).unwrap(); // those that were not there at the beginning
+    help_all(&mut marking, words, 0);
+    let mut survey = marking.finish(&roots).unwrap();
+    assert_eq!(survey.live_words(), 3 * PAIRS / 2);
+    slide_by_threads(&mut survey, &mut space, &mut to, &mut roots);
+    check_lists(&space, &roots);
+}
+
+#[test]
+fn what_is_written_between_steps_is_met() {
+    let pair = header(2, 0);
+    let at = Value::at;
+    // A pair that leads to another one, which is cut off, and room for a third one.
+    let mut words = [pair, at(3).word(), 0, pair, 0, 0, 0, 0, 0];
+    let begin = || Marking::begin(Edition::Four, 9, &[at(0)]).unwrap();
+    let (mut marking, mut forgetful) = (begin(), begin());
+    help_all(&mut forgetful, &words, 0);
+    (words[6], words[1]) = (pair, at(6).word());
+    marking.meet(&[at(3), at(6)]).unwrap();
+    help_all(&mut marking, &words, 0);
+    let mut part = [0; 9];
+    let mut survey = marking.finish(&[at(0)]).unwrap();
+    assert_eq!((survey.live_words(), survey.slide(&words, 0, &mut part)), (9, Ok(())));
+    assert_eq!(part, words);
+    let mut survey = forgetful.finish(&[at(0)]).unwrap();
+    assert_eq!(survey.live_words(), 6);
+    let slid = survey.slide(&words, 0, &mut part[..6]);
+    assert_eq!(slid, Err(Refusal::Unmarked { index: 1 }));
+}
+
+#[test]
+fn markings_are_refused() {
+    let at = Value::at;
+    let begin = |edition, roots: &[Value]| Marking::begin(edition, 3, roots);
+    let early = begin(Edition::Two, &[]).unwrap_err();
+    assert_eq!(early, Refusal::BadEdition { edition: 2 });
+    let astray = begin(Edition::Four, &[Value::NULL, at(3)]).unwrap_err();
+    assert_eq!(astray, Refusal::BadRoot { number: 1 });
+    let mut marking = begin(Edition::Four, &[at(0)]).unwrap();
+    assert_eq!(marking.help(&[0; 2], 0), Err(Refusal::WrongLength));
+    assert_eq!(marking.meet(&[at(3)]), Err(Refusal::BadRoot { number: 0 }));
+    let refused = marking.finish(&[at(0)]).unwrap_err();
+    assert_eq!((refused.refusal, refused.back.is_none()), (Refusal::StillMarking, true));
+    let mut marking = begin(Edition::Four, &[at(0)]).unwrap();
+    help_all(&mut marking, &[header(3, 0), 0, 0], 0);
+    assert_eq!(marking.finish(&[]).unwrap_err().refusal, Refusal::BadObject { index: 0 });
+    let mut marking = begin(Edition::Four, &[at(0)]).unwrap();
+    help_all(&mut marking, &[0; 3], 0);
+    let refused = marking.finish(&[at(0), at(1)]).unwrap_err();
+    assert_eq!(refused.refusal, Refusal::BadRoot { number: 1 });
 }
 
 #[test]

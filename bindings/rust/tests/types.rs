@@ -1,6 +1,6 @@
 //! What types promise; that a handle is not shared or cloned doc tests in src/handle.rs say.
 
-use compressor::rest::{Buffer, Job, Looks, Pages, Space, Survey, Tables};
+use compressor::rest::{Buffer, Job, Lane, Looks, Marking, Pages, Space, Survey, Tables};
 use compressor::{
     Address, Crew, Edition, End, Heap, Mutator, Plan, Refusal, Refused, Shape, Value,
 };
@@ -18,7 +18,9 @@ fn handles_go_to_other_threads() {
     is_sent::<Survey>();
     is_sent::<Tables>();
     is_sent::<Job>();
+    is_sent::<Marking>();
     is_sent::<Looks>();
+    is_sent::<Lane>();
     is_sent::<Pages>();
     is_sent::<Refused<Crew>>();
     is_sent::<Buffer>();

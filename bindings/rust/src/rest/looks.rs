@@ -7,9 +7,9 @@ handle! {
     /// A marking while threads go on. Its one marker hands in an object's row: its header, references and weak words,
     /// as they are then ([`Space::append_row`](super::Space::append_row)). At the second stop, in this order: each
     /// object that was written to since its last look is looked at again, the roots are met, what waits is looked at
-    /// until none does, and it is finished. So it is the survey of the words of then, if an object that was not written to since its last look has
-    /// the references and weak words that were looked at. If not, a part of the slide may be refused, as after
-    /// [`Survey::by_bits`].
+    /// until none does, and it is finished. So it is the survey of the words of then, if an object that was not written
+    /// to since its last look has the references and weak words that were looked at. If not, a part of the slide may be
+    /// refused, as after [`Survey::by_bits`]. Several markers begin by a [`Lane`](super::Lane) each.
     ///
     /// A step that is refused ends the marking, but for `StillWaiting`: survey by the roots.
     Looks, compressor_looks_drop
@@ -80,6 +80,18 @@ impl Looks {
             sys::compressor_looks_meet(&mut self.0, values.as_ptr().cast(), values.len())
         })?;
         Ok(self)
+    }
+
+    /// For debugging: asks of all objects that were looked at, at once, whether they are in these words as they must
+    /// be.
+    ///
+    /// # Errors
+    /// `WrongLength`, not as many words as the marking is of; `OutOfMemory`, or a fault that is there: `Changed`,
+    /// `Unmarked`, `BadWeak`, or `NotARun`, a word that belongs to no object any more.
+    pub fn check(&mut self, words: &[u64]) -> Result<(), Refusal> {
+        // SAFETY: the array is a slice.
+        told(unsafe { sys::compressor_looks_check(&mut self.0, words.as_ptr(), words.len()) })?;
+        Ok(())
     }
 
     /// Ends the marking, once no object waits.
