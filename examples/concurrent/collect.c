@@ -52,14 +52,16 @@ static void turn(int to_rest) {
 }
 
 static void threads_mark(int is_marking) {
-    for (uint32_t k = 0; k < heap.chosen.threads; k++)
+    for (uint32_t k = 0; k < heap.chosen.threads && !heap.chosen.is_by_looks; k++)
         if (heap.mutators[k].is_running) work_marks(&heap.mutators[k].kept, is_marking);
     heap.is_marking = is_marking;
 }
 
 void collect_mark(void) {
     gather();
-    marking_begin(&heap.kept, heap.roots, heap.root_count, heap.stops + 1); /* so many stops there are then */
+    /* its number is that of the stops that there are then */
+    if (!heap.chosen.is_by_looks) marking_begin(&heap.kept, heap.roots, heap.root_count, heap.stops + 1);
+    else heap.gave_up += !looking_begin(heap.roots, heap.root_count, heap.stops + 1);
     threads_mark(1);
     heap.used_at_start = heap_space.used;
     heap_space.limit = heap.chosen.words;
@@ -71,6 +73,10 @@ static int end_marking(void) {
     if (!heap.is_marking) return 0;
     heap.late += compressor_space_due(&heap_space) != 0;
     heap.meanwhile = heap_space.used - heap.used_at_start;
+    if (heap.chosen.is_by_looks) { /* the survey ends it */
+        threads_mark(0);
+        return 1;
+    }
     for (uint32_t k = 0; k < heap.chosen.threads; k++)
         if (heap.mutators[k].is_running) work_hand_on(&heap.mutators[k].kept);
     is_good = marking_finish(&heap.kept);
@@ -96,6 +102,8 @@ static void tell_refusal(compressor_answer a) {
 
 static compressor_answer survey_by_marking(void) {
     const size_t blocks = (heap_space.used + 63) / 64;
+    heap.surveyed = heap.chosen.is_by_looks ? heap_space.room : heap_space.used;
+    if (heap.chosen.is_by_looks) return looking_finish(heap.roots, heap.root_count, &heap.survey);
     if (heap.chosen.is_by_marks)
         return compressor_survey_by_marks(EDITION, heap_space.words, heap_space.used, heap.roots, heap.root_count,
                                           marking_marks(), blocks, &heap.survey);
@@ -117,6 +125,7 @@ static int is_surveyed_by_marking(void) {
 /* Whether the survey by roots is made: there may be no memory. */
 static int is_surveyed_by_roots(void) {
     compressor_answer a;
+    heap.surveyed = heap_space.used;
     TWICE(a, compressor_survey_by_roots_lent(&heap.tables, EDITION, heap_space.words, heap_space.used, heap.roots,
                                              heap.root_count, &heap.survey));
     if (a.status == COMPRESSOR_OUT_OF_MEMORY) return 0;
@@ -202,14 +211,14 @@ int collect_survey(void) {
     gather();
     time_part(DRAIN, &began);
     const int is_shared = survey(is_marked);
-    if (was_marking) marking_clear(used);
+    if (was_marking && !heap.chosen.is_by_looks) marking_clear(used);
     return is_shared;
 }
 
 void collect_slide(mutator *m) {
     size_t count;
     const uint64_t first = compressor_part(heap.live, part_count, m->part, &count);
-    m->slid = compressor_survey_slide(&m->share, heap_space.words, heap_space.used, first, heap.other + first, count);
+    m->slid = compressor_survey_slide(&m->share, heap_space.words, heap.surveyed, first, heap.other + first, count);
     compressor_survey_drop(&m->share);
 }
 

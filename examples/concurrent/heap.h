@@ -4,6 +4,7 @@
 #ifndef HEAP_H
 #define HEAP_H
 
+#include "looking.h"
 #include "marking.h"
 
 #include <stdio.h>
@@ -21,6 +22,7 @@ typedef uint64_t ref;
 typedef struct options {
     int is_concurrent;
     int is_by_marks;           /* the survey is by marks, and not by bits */
+    int is_by_looks;           /* the library's markers look at objects, and stores note what they write to */
     int has_no_barrier;        /* stores keep nothing: a fault that the survey or the slide finds */
     int is_told;               /* statistics are printed */
     int turns;                 /* each collection gives all objects new addresses, to find values that were kept */
@@ -34,6 +36,7 @@ typedef struct mutator {
     work kept;
     compressor_barrier *barrier; /* of its stores: that of `kept`, or one that keeps nothing */
     compressor_barrier none;
+    unsigned char *cards;        /* null: stores note nothing there */
     compressor_buffer buffer;
     ref *stack, *top;
     uint32_t number;
@@ -79,7 +82,8 @@ static inline ref heap_new(mutator *m, uint64_t header) {
 /* Any field; a reference field; any field of an object that was made since the last safepoint. */
 static inline uint64_t heap_load(ref object, uint64_t k) { return compressor_load(&heap_space, object, k); }
 static inline void heap_store(mutator *m, ref object, uint64_t k, ref value) {
-    compressor_store_barrier(&heap_space, m->barrier, object, k, value);
+    if (m->cards != NULL) compressor_store_card(&heap_space, m->cards, object, k, value);
+    else compressor_store_barrier(&heap_space, m->barrier, object, k, value);
 }
 static inline void heap_set(ref object, uint64_t k, uint64_t value) { compressor_store(&heap_space, object, k, value); }
 /* A weak word. */
@@ -87,6 +91,10 @@ static inline ref heap_load_weak(mutator *m, ref object, uint64_t k) {
     const ref value = heap_load(object, k);
     compressor_keep_in(&heap_space, m->barrier, value);
     return value;
+}
+static inline void heap_store_weak(mutator *m, ref object, uint64_t k, ref value) {
+    if (m->cards != NULL) compressor_store_card(&heap_space, m->cards, object, k, value);
+    else compressor_store_release(&heap_space, object, k, value); /* markers that look read it */
 }
 
 #endif
