@@ -1,6 +1,7 @@
 """Compares compressor.h with the exports of compressor_c, as shell.c calls them, and with what comp_handle answers: the
 same names, parameters (each handle of its kind) and results; structs with the same fields; the same statuses, kinds,
-limits and version. Of shell.c it sees that each function hands on its own arguments, in their order.
+limits and version. Of shell.c it sees that each function hands on its own arguments, in their order. The text of the
+version is no export: it alone is declared in version_text.c.
 
 usage: header.py CRATES
 """
@@ -54,6 +55,11 @@ VARIANTS = {
     "TurnFault::OtherRoom": "OTHER_LENGTH",
     "LookFault::ShortRun": "TOO_SHORT",
     "MeetFault::BadValue": "BAD_ROOT",
+    "CheckFault::Unowned": "NOT_A_RUN",
+    "MeetFault::Busy": "MARKERS_BUSY",
+    "MarkingFault::ShortObjects": "BAD_EDITION",
+    "MarkingEnd::Waiting": "STILL_MARKING",
+    "MarkingEnd::NoMemory": "OUT_OF_MEMORY",
     "MovedFault::WrongHead": "MOVED_WRONG_HEAD",
     "MovedFault::PlaceOutside": "MOVED_PLACE_OUTSIDE",
     "MovedFault::Overlap": "MOVED_OVERLAP",
@@ -187,6 +193,10 @@ def compare(crates):
     for name in sorted({*header, *given}):
         if header.get(name) != given.get(name):
             yield f"{name}: the header has {header.get(name)}, the exports have {given.get(name)}"
+    texts = re.findall(r"^const char \*(\w+)\(void\)", text, flags=re.M)
+    shown = re.findall(r"^const char \*(\w+)\(void\)", (crates / "compressor_c/shell/version_text.c").read_text(), flags=re.M)
+    if texts != ["compressor_version_text"] or shown != texts:
+        yield f"texts: the header has {texts}, version_text.c has {shown}"
     in_c, in_rattle = fields_in_c(text), fields_in_rattle(answers)
     for own, name in STRUCTS.items():
         have = [it for it in in_c.get(name, []) if not re.fullmatch(r"unused\[\d+\]", it[1])]
