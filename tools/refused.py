@@ -4,6 +4,7 @@ usage: refused.py RUNS PROGRAM
 """
 import os
 import re
+import resource
 import struct
 import subprocess
 import sys
@@ -11,6 +12,7 @@ import tempfile
 from pathlib import Path
 
 HERE = Path(__file__).resolve().parent
+NARROW = 128 << 10  # Linux maps so much stack as a program starts: whoever needs no more is not ended for want of memory
 FROM = 1 << 32
 TO = 1 << 33
 IMMEDIATE = 1 << 63
@@ -92,6 +94,14 @@ class Refusing:
             return None, True
         return ran, self.told.exists()
 
+    def narrow(self, words):
+        """A run with little stack, none of which the environment takes."""
+
+        def limit():
+            resource.setrlimit(resource.RLIMIT_STACK, (NARROW, NARROW))
+
+        return subprocess.run(words, cwd=self.folder, env={}, capture_output=True, timeout=60, stdin=subprocess.DEVNULL, preexec_fn=limit)
+
     def fault(self, name, number, told):
         self.faults += 1
         print(f"{name}: allocation {number}: {told}", flush=True)
@@ -129,16 +139,19 @@ class Refusing:
         wanted = dump.read_bytes()
         alone = not line.startswith("race ") and "--workers 2" not in line
 
+        def is_whole(ran):
+            """Whether a run of status 0 gave its whole answer."""
+            left = dump.read_bytes()
+            same = left == wanted if alone else len(left) == len(wanted)
+            return same and (prints is None or ran.stdout.decode() in prints) and not ran.stderr
+
         def judge(ran, met):
             if list(self.folder.glob(".compressor-*")):
                 for it in self.folder.glob(".compressor-*"):
                     it.unlink()
                 return "a file is left beside the path"
             if ran.returncode == 0:
-                whole = prints is None or ran.stdout.decode() in prints
-                left = dump.read_bytes()
-                same = left == wanted if alone else len(left) == len(wanted)
-                return None if whole and same and not ran.stderr else "not the whole answer"
+                return None if is_whole(ran) else "not the whole answer"
             if ran.returncode != 1 or not met or not NAMED.fullmatch(ran.stderr.decode(errors="replace")):
                 return "not refused by name"
             if dump.read_bytes() != BEFORE:
@@ -154,6 +167,11 @@ class Refusing:
         if not whole:
             self.fault(line, 0, f"{len(wanted)} bytes if nothing is refused")
         self.each(line, words, judge, prepare)
+        if ".img" in line:
+            prepare()
+            ran = self.narrow(words)
+            if ran.returncode or not is_whole(ran):
+                self.fault(line, 0, f"status {ran.returncode} with a stack of {NARROW} bytes: {ran.stderr[-200:]!r}")
 
 
 def main():

@@ -7,7 +7,6 @@ use Rattle.heap_layout.specs.Heap.{Heap, is_start}
 use Rattle.heap_layout.specs.Faults.{unless, size_faults, mark_faults, root_faults, target_faults, weak_faults, faults, IsFirst, IsAccepted, IsAnswered}
 use Rattle.heap_layout.proofs.Rows.{first-part}
 use Rattle.heap_layout.specs.declared.edition.Edition.{Edition}
-use Rattle.heap_layout.specs.declared.edition.Edition.TheVariants.{One, Two, Three, Four}
 use Rattle.heap_layout.specs.declared.fault.LayoutFault.{LayoutFault}
 use Rattle.heap_layout.specs.declared.fault.LayoutFault.TheVariants.{TooLarge, ObjectPastEnd, ObjectTooLong, MarkNotStart, MarksNotRising, BadRoot, UnmarkedTarget, Truncated, TrailingBytes, BadMagic, OutOfMemory, Device, BadWeak}
 use Rattle.heap_layout.proofs.Bounds.{fresh_pages_most}
@@ -38,12 +37,9 @@ refused_first list Device h = h
 refused_first list (BadWeak i) h = h
 
 -- the answer that `from_parts_of` gives is one for which `next_cycle` may be refused
-pub refused_answer : (edition : Edition) (list : List LayoutFault) (fault : LayoutFault) → IsAnswered edition list fault → IsRefusedFor list fault
-refused_answer edition list fault (inl first) = refused_first list fault first
-refused_answer One list fault (inr memory) = absurd memory
-refused_answer Two list fault (inr memory) = absurd memory
-refused_answer Three list fault (inr memory) = subst (IsRefusedFor list) (sym memory.0) tt
-refused_answer Four list fault (inr memory) = subst (IsRefusedFor list) (sym memory.0) tt
+pub refused_answer : (list : List LayoutFault) (fault : LayoutFault) → IsAnswered list fault → IsRefusedFor list fault
+refused_answer list fault (inl first) = refused_first list fault first
+refused_answer list fault (inr memory) = subst (IsRefusedFor list) (sym memory.0) tt
 
 -- the numbers of words, marks and roots have one fault only
 first_size : (words marks roots : Bool) (fault : LayoutFault) → IsFirst ((unless words TooLarge ++ unless marks TooLarge) ++ unless roots TooLarge) fault → fault ≡ TooLarge

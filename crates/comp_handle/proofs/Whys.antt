@@ -2,10 +2,9 @@
 use Rattle.std.proofs.Common.{◌≡◌, ℕ, List, [], length, Result, Ok, Err, inl, inr, refl, sym, subst, arith}
 use Rattle.std.specs.List.{flat_map}
 use Rattle.std.specs.Result.{IfErr}
-use Rattle.heap_layout.specs.Faults.{faults, object_faults, part_faults, size_faults, IsAccepted, IsAnswered, IsFirst, IsRefusedMemory}
+use Rattle.heap_layout.specs.Faults.{faults, object_faults, part_faults, size_faults, IsAccepted, IsAnswered, IsFirst}
 use Rattle.heap_layout.specs.Heap.{starts, Heap}
 use Rattle.heap_layout.specs.declared.edition.Edition.{Edition}
-use Rattle.heap_layout.specs.declared.edition.Edition.TheVariants.{One, Two, Three, Four}
 use Rattle.heap_layout.specs.declared.fault.LayoutFault.{LayoutFault}
 use Rattle.heap_layout.specs.declared.fault.LayoutFault.TheVariants.{TooLarge, ObjectPastEnd, ObjectTooLong, MarkNotStart, MarksNotRising, BadRoot, UnmarkedTarget, Truncated, TrailingBytes, BadMagic, OutOfMemory, Device, BadWeak}
 use Rattle.heap_layout.proofs.Marked.{passed, sizes-few}
@@ -21,20 +20,14 @@ pub err_more : {T E : Type 0} {P Q : E → Type 0} (r : Result T E) → ((e : E)
 err_more (Ok x) f h = tt
 err_more (Err e) f h = f e h
 
-memory_is : (edition : Edition) (list : List LayoutFault) (fault : LayoutFault) → IsRefusedMemory edition list fault → fault ≡ OutOfMemory
-memory_is One list fault h = absurd h
-memory_is Two list fault h = absurd h
-memory_is Three list fault h = h.0
-memory_is Four list fault h = h.0
-
 -- a heap with too many words, marks or roots
 pub too_many : (heap : Heap) (fault : LayoutFault) → IsFirst (size_faults heap.edition (length heap.words) (length heap.marks) (length heap.roots)) fault → IsWhy heap fault
 too_many heap fault first = inr (first-part (size_faults heap.edition (length heap.words) (length heap.marks) (length heap.roots)) (part_faults heap) fault first)
 
 -- why a heap with these marks is refused that has not too many
-pub why_answered : (edition : Edition) (heap : Heap) (fault : LayoutFault) → AreFew heap.edition heap.words heap.marks heap.roots → IsAnswered edition (faults heap) fault → IsWhy heap fault
-why_answered edition heap fault few (inl first) = inr first
-why_answered edition heap fault few (inr memory) = inl (memory_is edition (faults heap) fault memory, few)
+pub why_answered : (heap : Heap) (fault : LayoutFault) → AreFew heap.edition heap.words heap.marks heap.roots → IsAnswered (faults heap) fault → IsWhy heap fault
+why_answered heap fault few (inl first) = inr first
+why_answered heap fault few (inr memory) = inl (memory.0, few)
 
 -- an accepted heap has not too many
 pub few_of : (heap : Heap) → IsAccepted heap → AreFew heap.edition heap.words heap.marks heap.roots

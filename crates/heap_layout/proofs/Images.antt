@@ -4,9 +4,8 @@ use Rattle.std.specs.Io.KnownBytes.{Consumes}
 use Rattle.std.specs.List.{flat_map}
 use Rattle.std.proofs.KnownBytes.{Consumes-trans}
 use Rattle.heap_layout.specs.declared.edition.Edition.{Edition}
-use Rattle.heap_layout.specs.declared.edition.Edition.TheVariants.{One, Two, Three, Four}
 use Rattle.heap_layout.specs.Heap.{Heap, IsStored}
-use Rattle.heap_layout.specs.Faults.{faults, IsFirst, IsAnswered, IsRefusedMemory}
+use Rattle.heap_layout.specs.Faults.{faults, IsFirst, IsAnswered}
 use Rattle.heap_layout.specs.Encoding.{four_bytes, eight_bytes, preamble, counts, head, encoding, body_len, AreWithin, RefusesBy, RefusesCounts, RefusesParts, RefusesEnd, EndsBefore}
 use Rattle.heap_layout.specs.declared.fault.LayoutFault.{LayoutFault}
 use Rattle.heap_layout.specs.declared.fault.LayoutFault.TheVariants.{TooLarge, ObjectPastEnd, ObjectTooLong, MarkNotStart, MarksNotRising, BadRoot, UnmarkedTarget, BadWeak, Truncated, TrailingBytes, BadMagic, OutOfMemory, Device}
@@ -98,19 +97,12 @@ refused_part large heap (UnmarkedTarget i) known stored part first = (heap, stor
 refused_part large heap (BadWeak i) known stored part first = (heap, stored, refl, first, known)
 refused_part large heap _ known stored part first = absurd part
 
--- a refusal of memory is that fault
-pub refused_memory : (edition : Edition) (list : List LayoutFault) (fault : LayoutFault) → IsRefusedMemory edition list fault → fault ≡ OutOfMemory
-refused_memory One list fault memory = absurd memory
-refused_memory Two list fault memory = absurd memory
-refused_memory Three list fault memory = memory.0
-refused_memory Four list fault memory = memory.0
-
 -- the image of a heap within the limits is refused for the first fault of the heap, or for want of memory
 refused_heap : (large : Bool) (heap : Heap) (fault : LayoutFault) → IsRead large heap.edition → IsStored heap
     → AreWithin heap.edition (length heap.words) (length heap.marks) (length heap.roots)
-    → IsAnswered heap.edition (faults heap) fault → RefusesBy large fault (encoding heap)
+    → IsAnswered (faults heap) fault → RefusesBy large fault (encoding heap)
 refused_heap large heap fault known stored within (inl first) = refused_part large heap fault known stored (first_of_part heap fault within first) first
-refused_heap large heap fault known stored within (inr memory) = subst (λ (f : LayoutFault). RefusesBy large f (encoding heap)) (sym (refused_memory heap.edition (faults heap) fault memory)) tt
+refused_heap large heap fault known stored within (inr memory) = subst (λ (f : LayoutFault). RefusesBy large f (encoding heap)) (sym memory.0) tt
 
 -- the same by the bytes of a reader, if they are known
 pub refused_as_parts : (large : Bool) (a : Option (List ℕ)) (fault : LayoutFault) → IfSome a (RefusesParts large fault) → IfSome a (RefusesBy large fault)
@@ -123,7 +115,7 @@ same_image (Some bytes) heap made image same = image ∙ ap encoding (sym same)
 
 pub refused_as_heap : (large : Bool) (a : Option (List ℕ)) (heap : Heap) (fault : LayoutFault) → IfSome a (λ bytes. bytes ≡ encoding heap) → IsRead large heap.edition → IsStored heap
     → AreWithin heap.edition (length heap.words) (length heap.marks) (length heap.roots)
-    → IsAnswered heap.edition (faults heap) fault → IfSome a (RefusesBy large fault)
+    → IsAnswered (faults heap) fault → IfSome a (RefusesBy large fault)
 refused_as_heap large None heap fault image known stored within answered = tt
 refused_as_heap large (Some bytes) heap fault image known stored within answered =
     subst (RefusesBy large fault) (sym image) (refused_heap large heap fault known stored within answered)

@@ -7,14 +7,13 @@ use Rattle.std.specs.Result.{IsErrAnd}
 use Rattle.heap_layout.specs.Counted.{CountsFailure}
 use Rattle.heap_layout.specs.Encoding.{AreWithin}
 use Rattle.heap_layout.specs.declared.edition.Edition.{Edition}
-use Rattle.heap_layout.specs.declared.edition.Edition.TheVariants.{One, Two, Three, Four}
 use Rattle.heap_layout.specs.declared.kind.Kind.{Kind}
 use Rattle.heap_layout.specs.declared.kind.Kind.TheVariants.{Header, Reference, Weak, Data}
 use Rattle.heap_layout.specs.Limits.{most_words, most_roots, most_object_words}
 use Rattle.heap_layout.specs.Header.{size_of}
 use Rattle.heap_layout.specs.Kinds.{first_of}
 use Rattle.heap_layout.specs.Heap.{Heap, starts, is_start, is_value, header_at, object_at, fields_of}
-use Rattle.heap_layout.specs.Faults.{unless, size_faults, object_faults, mark_faults, root_faults, misled, reference_faults_by, field_faults_by, target_faults, weak_faults, part_faults, faults, IsFirst, IsAnswered, IsRefusedMemory, ReportsOf}
+use Rattle.heap_layout.specs.Faults.{unless, size_faults, object_faults, mark_faults, root_faults, misled, reference_faults_by, field_faults_by, target_faults, weak_faults, part_faults, faults, IsFirst, IsAnswered, Answers}
 use Rattle.heap_layout.specs.declared.fault.LayoutFault.{LayoutFault}
 use Rattle.heap_layout.specs.declared.fault.LayoutFault.TheVariants.{TooLarge, ObjectPastEnd, ObjectTooLong, MarkNotStart, MarksNotRising, BadRoot, UnmarkedTarget, BadWeak, OutOfMemory, Device}
 
@@ -109,21 +108,23 @@ parts_of_part heap =
     (fields_of_part Reference heap.edition (is_value heap.edition heap.marks) heap.words heap.marks)
     (fields_of_part Weak heap.edition (is_value heap.edition (starts heap.edition heap.words)) heap.words heap.marks)
 
--- none of the faults of parts is that of the sizes
-pub parts_not_too_large : (heap : Heap) → IsFirst (part_faults heap) TooLarge → ⊥
-parts_not_too_large heap first = first_all IsOfPart (part_faults heap) TooLarge (parts_of_part heap) first
+-- a fault that comes first in a heap within the limits comes first in its parts
+first_in_parts : (heap : Heap) (fault : LayoutFault) → size_faults heap.edition (length heap.words) (length heap.marks) (length heap.roots) ≡ []
+    → IsFirst (faults heap) fault → IsFirst (part_faults heap) fault
+first_in_parts heap fault none first = subst (λ (sizes : List LayoutFault). IsFirst (sizes ++ part_faults heap) fault) none first
 
--- a refusal of memory is an answer of the checks of editions three and four after that of the sizes
-pub memory_reported : {T : Type 0} (heap : Heap) (r : Result T LayoutFault) → IsErrAnd r (λ fault. fault ≡ OutOfMemory) → ReportsOf Three (part_faults heap) r
-memory_reported heap (Ok x) is = absurd is
-memory_reported heap (Err fault) is = inr (is, parts_not_too_large heap)
+-- a refusal of memory is an answer of the checks after that of the sizes
+pub memory_reported : {T : Type 0} (heap : Heap) (r : Result T LayoutFault) → size_faults heap.edition (length heap.words) (length heap.marks) (length heap.roots) ≡ []
+    → IsErrAnd r (λ fault. fault ≡ OutOfMemory) → Answers (faults heap) r
+memory_reported heap (Ok x) none is = absurd is
+memory_reported heap (Err fault) none is = inr (is, λ first. first_all IsOfPart (part_faults heap) TooLarge (parts_of_part heap) (first_in_parts heap TooLarge none first))
 
 -- the first fault of a heap within the limits is the fault of a part
 pub first_of_part : (heap : Heap) (fault : LayoutFault) → AreWithin heap.edition (length heap.words) (length heap.marks) (length heap.roots)
     → IsFirst (faults heap) fault → IsOfPart fault
 first_of_part heap fault within first =
     let none = no_size_fault heap.edition (length heap.words) (length heap.marks) (length heap.roots) within in
-    first_all IsOfPart (part_faults heap) fault (parts_of_part heap) (subst (λ (sizes : List LayoutFault). IsFirst (sizes ++ part_faults heap) fault) none first)
+    first_all IsOfPart (part_faults heap) fault (parts_of_part heap) (first_in_parts heap fault none first)
 
 -- the fault is no failure of the device
 abbrev pub IsNoDevice : LayoutFault → Type 0
@@ -134,17 +135,11 @@ part_no_device : (fault : LayoutFault) → IsOfPart fault → IsNoDevice fault
 part_no_device Device part = absurd part
 part_no_device _ part = tt
 
-memory_no_device : (edition : Edition) (list : List LayoutFault) (fault : LayoutFault) → IsRefusedMemory edition list fault → IsNoDevice fault
-memory_no_device One list fault memory = absurd memory
-memory_no_device Two list fault memory = absurd memory
-memory_no_device Three list fault memory = subst IsNoDevice (sym memory.0) tt
-memory_no_device Four list fault memory = subst IsNoDevice (sym memory.0) tt
-
 -- the answer for a heap within the limits is no failure of the device
 pub no_device : (heap : Heap) (fault : LayoutFault) → AreWithin heap.edition (length heap.words) (length heap.marks) (length heap.roots)
-    → IsAnswered heap.edition (faults heap) fault → IsNoDevice fault
+    → IsAnswered (faults heap) fault → IsNoDevice fault
 no_device heap fault within (inl first) = part_no_device fault (first_of_part heap fault within first)
-no_device heap fault within (inr memory) = memory_no_device heap.edition (faults heap) fault memory
+no_device heap fault within (inr memory) = subst IsNoDevice (sym memory.0) tt
 
 pub counts_kept : (T : Type 0) (before after : ℕ) (result : Result T LayoutFault) → IfErr result IsNoDevice → after ≡ before → CountsFailure before after result
 counts_kept T before after (Ok _) part same = same

@@ -8,7 +8,6 @@ use Rattle.heap_layout.specs.Bits.{bit}
 use Rattle.heap_layout.specs.Kinds.{first_of}
 use Rattle.heap_layout.specs.Heap.{Heap, header_at, object_at, fields_of, starts, starts_at, is_start, is_value}
 use Rattle.heap_layout.specs.declared.edition.Edition.{Edition}
-use Rattle.heap_layout.specs.declared.edition.Edition.TheVariants.{One, Two, Three, Four}
 use Rattle.heap_layout.specs.declared.kind.Kind.{Kind}
 use Rattle.heap_layout.specs.declared.kind.Kind.TheVariants.{Reference, Weak}
 use Rattle.heap_layout.specs.declared.fault.LayoutFault.{LayoutFault}
@@ -103,23 +102,20 @@ abbrev pub IsFirst : {F : Type 0} → List F → F → Type 0
 IsFirst [] fault = ⊥
 IsFirst (first ∷ others) fault = fault ≡ first
 
--- an allocation was refused: only the checks of editions three and four make one, and only after that of the sizes
-abbrev pub IsRefusedMemory : Edition → List LayoutFault → LayoutFault → Type 0
-IsRefusedMemory One list fault = ⊥
-IsRefusedMemory Two list fault = ⊥
-IsRefusedMemory Three list fault = (fault ≡ OutOfMemory) × (IsFirst list TooLarge → ⊥)
-IsRefusedMemory Four list fault = (fault ≡ OutOfMemory) × (IsFirst list TooLarge → ⊥)
+-- an allocation was refused: the checks make one, and only after that of the sizes
+abbrev pub IsRefusedMemory : List LayoutFault → LayoutFault → Type 0
+IsRefusedMemory list fault = (fault ≡ OutOfMemory) × (IsFirst list TooLarge → ⊥)
 
--- the fault that is answered for a heap of this edition with this list of faults
-abbrev pub IsAnswered : Edition → List LayoutFault → LayoutFault → Type 0
-IsAnswered edition list fault = IsFirst list fault ⊎ IsRefusedMemory edition list fault
+-- the fault that is answered for a heap with this list of faults
+abbrev pub IsAnswered : List LayoutFault → LayoutFault → Type 0
+IsAnswered list fault = IsFirst list fault ⊎ IsRefusedMemory list fault
 
 -- the answer for this list of faults: Ok if it is empty, otherwise its first fault
 abbrev pub Reports : {F T : Type 0} → List F → Result T F → Type 0
 Reports list (Ok _) = list ≡ []
 Reports list (Err fault) = IsFirst list fault
 
--- the same for a heap of this edition, if the answer may be that memory was refused
-abbrev pub ReportsOf : {T : Type 0} → Edition → List LayoutFault → Result T LayoutFault → Type 0
-ReportsOf edition list (Ok _) = list ≡ []
-ReportsOf edition list (Err fault) = IsAnswered edition list fault
+-- the same of a heap, if the answer may be that memory was refused
+abbrev pub Answers : {T : Type 0} → List LayoutFault → Result T LayoutFault → Type 0
+Answers list (Ok _) = list ≡ []
+Answers list (Err fault) = IsAnswered list fault

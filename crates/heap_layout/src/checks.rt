@@ -1,27 +1,21 @@
-//! The checks that a heap passes before it is accepted, in the order in which their faults count. Only in editions
-//! three and four they allocate.
+//! The checks that a heap passes before it is accepted, in the order in which their faults count.
 ghost use Rattle.std.specs.Prelude.{◌≡◌, ℕ, ◌+◌, ◌*◌, ◌^◌, ◌<◌, ◌≤◌, ◌==◌, ◌&&◌, ◌++◌, nat_lt, false, [], All, length, slice_index, IfOk};
 ghost use Rattle.std.specs.List.{flat_map};
-ghost use Rattle.heap_layout.specs.declared.edition.Edition.TheVariants.{Three};
 ghost use Rattle.heap_layout.specs.Heap.{starts, is_start, is_target, IsPlaced};
 ghost use Rattle.heap_layout.specs.Bits.{bit, leads};
 ghost use Rattle.heap_layout.specs.Values.{or_immediate};
-ghost use Rattle.heap_layout.specs.Faults.{IsReached, Meets, size_faults, object_faults, mark_faults, root_faults_by, misled, reference_faults_by, field_faults_by, weak_faults, part_faults, faults, Reports, ReportsOf};
+ghost use Rattle.heap_layout.specs.Faults.{IsReached, Meets, size_faults, object_faults, mark_faults, root_faults_by, misled, reference_faults_by, field_faults_by, weak_faults, part_faults, faults, Reports, Answers};
 
 use crate::bits::set_if;
 use crate::edition::Edition;
 use crate::fault::LayoutFault;
 use crate::header::Header;
 use crate::kind::Kind;
-use crate::limits::MAX_WORDS;
 use crate::targets::{holds, put_marks, put_row};
 use std::alloc::Global;
 
-// The number of blocks of 64 bits that have one bit for each word of the largest heap of edition one or two.
-const BLOCKS: usize = MAX_WORDS / 64;
-
-/// Checks a heap made of these parts: Ok if it is accepted, otherwise Err with its first fault. In editions three and
-/// four it allocates a bit for each word, and `OutOfMemory` may replace any other answer but `TooLarge`.
+/// Checks a heap made of these parts: Ok if it is accepted, otherwise Err with its first fault. It allocates a bit for
+/// each word, and `OutOfMemory` may replace any other answer but `TooLarge`.
 pub fn check(
     alloc: Global,
     edition: Edition,
@@ -29,54 +23,14 @@ pub fn check(
     marks: &[u32],
     roots: &[u64],
 ) -> Result<(), LayoutFault>
-    ensures { ReportsOf edition (faults (record { edition = edition; words = words.now; marks = marks.now; roots = roots.now })) result }
+    ensures { Answers (faults (record { edition = edition; words = words.now; marks = marks.now; roots = roots.now })) result }
 {
     check_sizes(edition, words.len(), marks.len(), roots.len())?;
-    match edition {
-        Edition::One | Edition::Two => check_small(edition, words, marks, roots),
-        Edition::Three | Edition::Four => check_large(alloc, edition, words, marks, roots),
-    }
-}
-
-// Blocks with no bit set.
-fn zeros<const N: usize>() -> [u64; N]
-    ensures { (i : ℕ) → bit result i ≡ false }
-{
-    [0; N]
-}
-
-// The checks after that of the sizes, with bits on the stack.
-fn check_small(
-    edition: Edition,
-    words: &[u64],
-    marks: &[u32],
-    roots: &[u64],
-) -> Result<(), LayoutFault>
-    requires few { length words.now ≤ 2 ^ 20 }
-    ensures { Reports (part_faults (record { edition = edition; words = words.now; marks = marks.now; roots = roots.now })) result }
-{
-    let mut bits = zeros::<BLOCKS>();
-    check_parts(&mut bits, edition, words, marks, roots)
-}
-
-// The same with bits that are allocated.
-fn check_large(
-    alloc: Global,
-    edition: Edition,
-    words: &[u64],
-    marks: &[u32],
-    roots: &[u64],
-) -> Result<(), LayoutFault>
-    requires few { length words.now ≤ 2 ^ 31 }
-    ensures { ReportsOf Three (part_faults (record { edition = edition; words = words.now; marks = marks.now; roots = roots.now })) result }
-{
     let mut bits = vec![in alloc; 0; words.len() / 64 + 1]?;
     check_parts(&mut bits, edition, words, marks, roots)
 }
 
-// The same with these bits, which must be none, and enough for all words. It is compiled for each of its two callers,
-// since bits on the stack are of a known number.
-#[inline(always)]
+// The checks after that of the sizes, with these bits, which must be none, and enough for all words.
 fn check_parts(
     bits: &mut [u64],
     edition: Edition,

@@ -1,7 +1,7 @@
 ghost use Rattle.std.specs.Prelude.{◌≡◌, ◌<◌, length, IfOk, IfErr};
 ghost use Rattle.std.specs.List.{flat_map};
 ghost use Rattle.heap_layout.specs.Heap.{header_at, objects, words_of, IsStored, IsClosed};
-ghost use Rattle.heap_layout.specs.Faults.{faults, IsAccepted, IsAnswered, IsFirst};
+ghost use Rattle.heap_layout.specs.Faults.{faults, IsAccepted, IsAnswered};
 ghost use Rattle.heap_layout.specs.declared.edition.Edition.TheVariants.{One};
 
 use crate::checks;
@@ -44,14 +44,13 @@ impl MarkedHeap {
         ensures accepted { IfOk result IsAccepted }
         ensures stored { IfOk result IsStored }
         ensures fault { IfErr result
-            (IsFirst (faults (record { edition = One; words = words.items; marks = marks.items; roots = roots.items }))) }
+            (IsAnswered (faults (record { edition = One; words = words.items; marks = marks.items; roots = roots.items }))) }
     {
         MarkedHeap::from_parts_of(Edition::One, words, marks, roots)
     }
 
     /// Makes a heap of this edition from words, marks and roots. Err with the first fault if the heap is not accepted.
-    /// In editions one and two it does not allocate. In editions three and four it allocates a bit for each word, and
-    /// `OutOfMemory` may replace any other answer but `TooLarge`.
+    /// It allocates a bit for each word, and `OutOfMemory` may replace any other answer but `TooLarge`.
     pub fn from_parts_of(
         edition: Edition,
         words: Vec<u64>,
@@ -62,7 +61,7 @@ impl MarkedHeap {
         ensures accepted { IfOk result IsAccepted }
         ensures stored { IfOk result IsStored }
         ensures fault { IfErr result
-            (IsAnswered edition (faults (record { edition = edition; words = words.items; marks = marks.items; roots = roots.items }))) }
+            (IsAnswered (faults (record { edition = edition; words = words.items; marks = marks.items; roots = roots.items }))) }
     {
         let alloc = *words.allocator();
         checks::check(alloc, edition, &words, &marks, &roots)?;

@@ -3,10 +3,9 @@ use Rattle.std.proofs.Common.{◌≡◌, ℕ, Bool, true, false, leb, List, [], 
 use Rattle.std.specs.List.{flat_map}
 use Rattle.std.proofs.lemmas.Bool.{leb-true, le-leb}
 use Rattle.heap_layout.specs.declared.edition.Edition.{Edition}
-use Rattle.heap_layout.specs.declared.edition.Edition.TheVariants.{One, Two, Three, Four}
 use Rattle.heap_layout.specs.Limits.{most_words, most_roots}
 use Rattle.heap_layout.specs.Heap.{Heap, starts}
-use Rattle.heap_layout.specs.Faults.{unless, size_faults, object_faults, mark_faults, root_faults, target_faults, weak_faults, faults, IsAccepted, IsFirst, IsAnswered, IsRefusedMemory}
+use Rattle.heap_layout.specs.Faults.{unless, size_faults, object_faults, mark_faults, root_faults, target_faults, weak_faults, faults, IsAccepted, IsFirst, IsAnswered}
 use Rattle.heap_layout.specs.declared.fault.LayoutFault.{LayoutFault}
 use Rattle.heap_layout.specs.declared.fault.LayoutFault.TheVariants.{TooLarge, ObjectPastEnd, ObjectTooLong, MarkNotStart, MarksNotRising, BadRoot, UnmarkedTarget, Truncated, TrailingBytes, BadMagic, OutOfMemory, Device, BadWeak}
 use Rattle.heap_layout.proofs.Marked.{passed, sizes-few}
@@ -46,16 +45,10 @@ refuses-first list BadMagic first = first
 refuses-first list Device first = first
 refuses-first list (BadWeak i) first = first
 
--- refused memory refuses for any list
-refuses-memory : (edition : Edition) (list : List LayoutFault) (fault : LayoutFault) → IsRefusedMemory edition list fault → RefusesFor list fault
-refuses-memory One list fault memory = absurd memory
-refuses-memory Two list fault memory = absurd memory
-refuses-memory Three list fault memory = subst (RefusesFor list) (sym memory.0) tt
-refuses-memory Four list fault memory = subst (RefusesFor list) (sym memory.0) tt
-
--- so does what the checks of a heap answer
-pub refuses-answered : (edition : Edition) (list : List LayoutFault) (fault : LayoutFault) → IsAnswered edition list fault → RefusesFor list fault
-refuses-answered edition list fault answered = elim answered [ inl first ↦ refuses-first list fault first | inr memory ↦ refuses-memory edition list fault memory ]
+-- so does what the checks of a heap answer: the first fault, or that memory was refused
+pub refuses-answered : (list : List LayoutFault) (fault : LayoutFault) → IsAnswered list fault → RefusesFor list fault
+refuses-answered list fault (inl first) = refuses-first list fault first
+refuses-answered list fault (inr memory) = subst (RefusesFor list) (sym memory.0) tt
 
 -- where there is no fault, only memory is missing
 pub memory-only : (fault : LayoutFault) → RefusesFor [] fault → fault ≡ OutOfMemory

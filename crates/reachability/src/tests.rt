@@ -270,7 +270,6 @@ fn an_accepted_heap_is_marked_anew(rt: HostRuntime) {
     assert_eq!(&rt; heap.marks(), &[0u32, 2, 5][..]);
 }
 
-// In editions three and four the checks of the heap allocate too.
 #[test]
 fn an_accepted_heap_of_edition_three_is_marked_anew(rt: HostRuntime) {
     let words = Vec::from_slice(rt.alloc(), &[0, 0, 0]).expect(&rt, "words");

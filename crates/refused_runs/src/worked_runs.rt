@@ -144,7 +144,7 @@ const REFERRED: MutatorRun = MutatorRun {
     builds: &[&[1, 0], &[2]],
 };
 
-// A heap of edition three, whose check allocates, with so many fresh pages that the zeros of its table do too.
+// A heap of edition three, with so many fresh pages that the zeros of its table take memory.
 const LARGE: MutatorRun = MutatorRun {
     name: "a large table",
     heap: Worked::Mixed,

@@ -45,4 +45,4 @@ returns-clause-refused g c =
     (subst (λ (b : List ℕ). AreMoved (setup_in heap f) (journals_of f) (64 * length (pages_of f)) c.args.moved.words.items b) (sym c.deref.ensures.value) c.requires.moved) (ap length c.deref.ensures.value ∙ c.requires.bits) in
     let made = made_next heap f c.args.marks.items c.args.roots.now c.requires.of c.edition-edition.result c.args.moved.words.items c.args.moved.starts.items c.in-Ok.roots.items c.edition-edition.ensures c.requires.moved c.in-Ok.ensures in
     let same = ap faults made ∙ faults_are heap f c.args.marks.items c.args.roots.now c.requires.of c.requires.sizes (sym (ap (mark_faults row 0) c.deref-2.ensures.value) ∙ c.in_default.ensures row bits) in
-    MatchResult-weaker c.from_parts_of.result c.from_parts_of.ensures.fault (λ _ t. t) (λ fault answered. refused_answer _ _ fault (subst (λ (l : List LayoutFault). IsAnswered c.edition-edition.result l fault) same answered))
+    MatchResult-weaker c.from_parts_of.result c.from_parts_of.ensures.fault (λ _ t. t) (λ fault answered. refused_answer _ fault (subst (λ (l : List LayoutFault). IsAnswered l fault) same answered))

@@ -16,4 +16,4 @@ returns-clause-fault c =
     ∙ ap (λ (l : List ℕ). given edition c.args.words.now c.args.marks.now l) c.in_ok-roots.ensures in
     let few = subst (λ (heap : Heap). AreFew heap.edition heap.words heap.marks heap.roots) (sym same) c.in_ok-check_sizes.ensures in
     subst (λ (heap : Heap). IfErr c.from_parts_of.result (IsWhy heap)) same
-    (err_more c.from_parts_of.result (λ fault h. why_answered edition (given edition words marks roots) fault few h) c.from_parts_of.ensures.fault)
+    (err_more c.from_parts_of.result (λ fault h. why_answered (given edition words marks roots) fault few h) c.from_parts_of.ensures.fault)

@@ -15,10 +15,10 @@ returns-in-Ok-clause-refused c =
     let found = c.in-Ok.marks.items in
     let heap : List ℕ → Heap = λ marks. record { edition = edition; words = words; marks = marks; roots = roots } in
     let reachable : AreReachable edition words roots found = subst (λ result. IfOk result (λ marks. AreReachable edition words roots marks.items)) c.in-Ok.is c.requires.reachable in
-    IfErr-weaker c.from_parts_of.result (IsAnswered edition (faults (heap found))) (λ fault. (marks : List ℕ) → AreReachable edition words roots marks → RefusesFor (faults (heap marks)) fault)
+    IfErr-weaker c.from_parts_of.result (IsAnswered (faults (heap found))) (λ fault. (marks : List ℕ) → AreReachable edition words roots marks → RefusesFor (faults (heap marks)) fault)
     (λ fault answered marks are.
-    refuses-answered edition (faults (heap marks)) fault
-    (subst (λ (list : List ℕ). IsAnswered edition (faults (heap list)) fault) (once edition words roots found marks reachable are) answered))
+    refuses-answered (faults (heap marks)) fault
+    (subst (λ (list : List ℕ). IsAnswered (faults (heap list)) fault) (once edition words roots found marks reachable are) answered))
     c.from_parts_of.ensures.fault
 
 pub returns-in-Err-clause-refused : goal.returns-in-Err-clause-refused
