@@ -19,9 +19,9 @@ use Rattle.mark_tables.proofs.Runs.{zeros-bit}
 use Rattle.reachability.specs.Queue.{has, is_address, after_word}
 use Rattle.reachability.proofs.Queues.{queue-all, kept, places, met, place-of, has-at, has-later}
 use Rattle.reachability.proofs.Rising.{contains-had, has-contained}
-use Rattle.stopped_heap.specs.Growing.{roots_on, AreMarked, IsBegun, IsGrown, IsMoreFaultOf}
+use Rattle.stopped_heap.specs.Growing.{roots_on, AreMarked, IsBegun, IsGrown, IsMoreFaultOf, IsOnward}
 use Rattle.stopped_heap.specs.Marks.{AllKept, IsKept}
-use Rattle.stopped_heap.specs.Meeting.{AllLead, AreApart, AreMet, IsDone}
+use Rattle.stopped_heap.specs.Meeting.{AllLead, AreMet, IsDone}
 use Rattle.stopped_heap.specs.Reached.{is_below, leads_within, IsWordOf, LeadInto, IsReachedFrom, by_root, by_reference, AreReached, IsFaultOf, IsSound}
 use Rattle.stopped_heap.specs.Surveys.{marks_of, told}
 use Rattle.stopped_heap.specs.declared.fault.SurveyFault.{SurveyFault}
@@ -311,16 +311,6 @@ lead-kept edition words from heads lead lives k lt =
             or_right (word == 0) (is_address (bit heads) word) (and_from (leb (2 ^ 32) word) (bit heads i) parts.0 (lives i to))
       ])
     ]
-
--- what marking has found
-pub record IsOnward (edition : Edition) (words queue more heads bits : List ℕ) : Type 0 where
-  pub few : length words ≤ most_words edition
-  pub reached : (i : ℕ) → bit heads i ≡ true → IsReachedFrom edition words (roots_on queue more) i
-  pub all : (i : ℕ) → IsReachedFrom edition words (roots_on queue more) i → bit heads i ≡ true
-  pub done : (i : ℕ) → bit heads i ≡ true → IsDone edition words bits i
-  pub only : (j : ℕ) → bit bits j ≡ true → (i : ℕ) × (bit heads i ≡ true) × IsWordOf edition words i j
-  pub apart : AreApart edition words heads
-  pub roots_lead : AllLead edition (length words) more
 
 module _ (edition : Edition) (words queue more heads bits : List ℕ) (is : IsOnward edition words queue more heads bits) where
   pub onward-marked : AreMarked edition words heads bits

@@ -125,7 +125,7 @@ value-mark edition marks i small value = elim (or_cases (is_immediate edition (f
 
 -- ---- a filter of words
 
-had-filter : (p : ℕ → Bool) (xs : List ℕ) (x : ℕ) → has (filter p xs) x ≡ true → has xs x ≡ true
+pub had-filter : (p : ℕ → Bool) (xs : List ℕ) (x : ℕ) → has (filter p xs) x ≡ true → has xs x ≡ true
 had-filter p [] x there = there
 had-filter p (y ∷ ys) x there = elim (cases_Bool (p y)) [
   | inl passes ↦
@@ -137,7 +137,7 @@ had-filter p (y ∷ ys) x there = elim (cases_Bool (p y)) [
   | inr fails ↦ has-later y x ys (had-filter p ys x (subst (λ (b : Bool). has (cond b (y ∷ filter p ys) (filter p ys)) x ≡ true) fails there))
 ]
 
-filter-had : (p : ℕ → Bool) (xs : List ℕ) (x : ℕ) → has xs x ≡ true → p x ≡ true → has (filter p xs) x ≡ true
+pub filter-had : (p : ℕ → Bool) (xs : List ℕ) (x : ℕ) → has xs x ≡ true → p x ≡ true → has (filter p xs) x ≡ true
 filter-had p [] x there passes = there
 filter-had p (y ∷ ys) x there passes = elim (or_cases (eqb x y) (has ys x) there) [
   | inl here ↦

@@ -225,3 +225,19 @@ pub measure-smaller : (more before : Bool) (words old new : ℕ) → before ≡ 
 measure-smaller true true words old new is fits no_shorter longer = let up = longer refl in omega (arith, fits, up)
 measure-smaller false true words old new is fits no_shorter longer = omega (arith, no_shorter)
 measure-smaller more false words old new is fits no_shorter longer = absurd (let none : false ≡ true = is in cc)
+
+-- ---- one step after another
+
+-- what a later step marks is held, if what the steps before it marked is
+pub held-then : (edition : Edition) (words first mid new ephemerons : List ℕ) → ((i : ℕ) → bit mid i ≡ true → IsHeld edition words (marks_of first) ephemerons (from_address i))
+    → ((i : ℕ) → bit new i ≡ true → IsHeld edition words (marks_of mid) ephemerons (from_address i))
+    → (i : ℕ) → bit new i ≡ true → IsHeld edition words (marks_of first) ephemerons (from_address i)
+held-then edition words first mid new ephemerons before after i set =
+    held-through edition words (marks_of mid) (marks_of first) ephemerons (λ j there. before j (set-of mid j there)) (from_address i) (after i set)
+
+-- and so is a fault that it meets
+pub fault-then : (edition : Edition) (words first mid ephemerons : List ℕ) (fault : SurveyFault)
+    → ((i : ℕ) → bit mid i ≡ true → IsHeld edition words (marks_of first) ephemerons (from_address i)) → IsHeldFaultOf edition words (marks_of mid) ephemerons fault
+    → IsHeldFaultOf edition words (marks_of first) ephemerons fault
+fault-then edition words first mid ephemerons fault before =
+    fault-through edition words (marks_of mid) (marks_of first) ephemerons fault (λ j there. before j (set-of mid j there))

@@ -36,6 +36,7 @@ pub mod Lasting
 pub mod Asking
 pub mod Covered
 pub mod Grown
+pub mod Seen
 pub mod Held
 pub mod RunBlocks
 pub mod GivenBits
@@ -54,3 +55,7 @@ mod Inverting
 mod AskedAll
 mod LaneSets
 mod LanesJoined
+mod FoundIn
+mod SeenHeld
+pub mod Waiting
+mod Listing

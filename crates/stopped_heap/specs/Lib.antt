@@ -13,6 +13,8 @@ pub mod Rounds
 pub mod Kept
 pub mod LiveBits
 pub mod Growing
+pub mod Growth
+pub mod NotGrowth
 pub mod Ephemerons
 pub mod Given
 pub mod Looks
@@ -20,6 +22,7 @@ pub mod LookFaults
 pub mod Tidied
 pub mod Starts
 pub mod Guarded
+pub mod Ordered
 pub mod Checks
 pub mod Lanes
 pub mod LaneParts

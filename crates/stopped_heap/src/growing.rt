@@ -4,7 +4,7 @@
 ghost use Rattle.std.specs.Prelude.{◌≡◌, ℕ, ◌<◌, ◌≤◌, List, [], ◌++◌, length, vec_capacity, All, IfErr, IfOk, OnOk};
 ghost use Rattle.heap_layout.specs.Heap.{is_value, IsValue};
 ghost use Rattle.stopped_heap.specs.Ephemerons.{AreHeld, IsHeldFaultOf};
-ghost use Rattle.stopped_heap.specs.Growing.{roots_on, IsGrown, IsMoreFaultOf};
+ghost use Rattle.stopped_heap.specs.Growing.{roots_on, AreReady, IsGrown, IsGrownIn, IsMoreFaultOf, IsSeenFaultOf};
 ghost use Rattle.stopped_heap.specs.Marks.{AllKept};
 ghost use Rattle.stopped_heap.specs.Reached.{AreReached, IsFaultOf};
 ghost use Rattle.stopped_heap.specs.Surveys.{marks_of};
@@ -14,7 +14,7 @@ ghost use Rattle.stopped_heap.specs.declared.fault.SurveyFault.TheVariants as su
 use crate::ephemerons::keep_values;
 use crate::fault::{LentFault, SurveyFault};
 use crate::lending::clear;
-use crate::marking::mark_on;
+use crate::marking::mark_in;
 use crate::marks::leads_to;
 use crate::offsets::put_offsets;
 use crate::starts::put_starts;
@@ -29,14 +29,14 @@ use std::marker::Model;
 /// room of its tables, as those of a survey.
 #[derive(Drop)]
 pub struct Growing<'w> {
-    edition: Edition,
-    words: &'w [u64],
-    room: usize,
-    heads: Vec<u64>,
-    bits: Vec<u64>,
-    counts: Vec<u32>,
-    starts: Vec<u32>,
-    queue: Vec<u32>,
+    pub(crate) edition: Edition,
+    pub(crate) words: &'w [u64],
+    pub(crate) room: usize,
+    pub(crate) heads: Vec<u64>,
+    pub(crate) bits: Vec<u64>,
+    pub(crate) counts: Vec<u32>,
+    pub(crate) starts: Vec<u32>,
+    pub(crate) queue: Vec<u32>,
 }
 
 impl<'w> Model for Growing<'w> {
@@ -74,10 +74,37 @@ pub(crate) fn grow(
     ensures long { length bits.new ≡ length bits.old }
     ensures capacity { vec_capacity queue.old ≤ vec_capacity queue.new }
 {
+    if let Err(fault) = grow_in(edition, words, more, heads, bits, queue) {
+        return Err(fault);
+    }
+    Ok(())
+}
+
+/// The same in words that may have been written to since. Whatever words were seen then, and are the same where no bit
+/// is set: of these is all that is found.
+pub(crate) fn grow_in(
+    edition: Edition,
+    words: &[u64],
+    more: &[u64],
+    heads: &mut [u64],
+    bits: &mut [u64],
+    queue: &mut Vec<u32>,
+) -> Result<(), SurveyFault>
+    requires ready { AreReady edition (length words.now) queue.old.items heads.old bits.old }
+    ensures ready { OnOk result (AreReady edition (length words.now) queue.new.items heads.new bits.new) }
+    ensures grown { OnOk result ((seen : List ℕ) → IsGrownIn edition words.now seen queue.old.items heads.old bits.old → IsGrownIn edition words.now seen queue.new.items heads.new bits.new) }
+    ensures reached { OnOk result ((seen : List ℕ) → IsGrownIn edition words.now seen queue.old.items heads.old bits.old → AreReached edition seen (roots_on (marks_of heads.old) more.now) (marks_of heads.new)) }
+    ensures leads { OnOk result ((seen : List ℕ) → IsGrownIn edition words.now seen queue.old.items heads.old bits.old → AllKept edition heads.new more.now) }
+    ensures fault { IfErr result (λ fault. (seen : List ℕ) → IsGrownIn edition words.now seen queue.old.items heads.old bits.old → IsSeenFaultOf edition words.now seen (marks_of heads.old) more.now fault) }
+    ensures short { IfErr result (λ fault. fault ≡ survey.OutOfMemory → vec_capacity queue.old < length words.now) }
+    ensures same { length heads.new ≡ length heads.old }
+    ensures long { length bits.new ≡ length bits.old }
+    ensures capacity { vec_capacity queue.old ≤ vec_capacity queue.new }
+{
     if more.len() > edition.max_roots() {
         return Err(SurveyFault::TooLarge);
     }
-    if let Err(fault) = mark_on(edition, words, more, heads, bits, queue) {
+    if let Err(fault) = mark_in(edition, words, more, heads, bits, queue) {
         return Err(fault);
     }
     Ok(())
@@ -226,9 +253,11 @@ impl<'w> Growing<'w> {
     /// and key are kept then, and so on; and all that they reach. An ephemeron is three words, holder, key and value;
     /// words behind the last three are not looked at. A holder or key that is null is not kept.
     ///
-    /// Each round asks all of them. There is one more round than are needed to find new values. Err with a fault that is
-    /// there, or with `OutOfMemory`, which never comes if the tables have room for the words. Then the survey is over,
-    /// and its tables come back, with the room that they had.
+    /// Each round asks all of them, and the last one finds none. After some rounds that kept little it looks up what they
+    /// kept in an index, of 8 bytes an ephemeron, which stays as long as the survey. So it costs as the ephemerons and
+    /// what they keep, times a logarithm. Lent tables have room for an index of one ephemeron in 64 words; with more, or
+    /// without memory, there are rounds alone. Err with a fault that is there, or with `OutOfMemory`, which never comes if
+    /// the tables have room for the words. Then the survey is over, and its tables come back, with the room that they had.
     pub fn also_values(self, ephemerons: &[u64]) -> Result<Growing<'w>, NotGrown>
         ensures held { IfOk result (λ after. AreHeld self.entry.edition self.entry.words self.entry.marks ephemerons.now after.marks) }
         ensures words { IfOk result (λ after. after.words ≡ self.entry.words) }
@@ -244,12 +273,20 @@ impl<'w> Growing<'w> {
             room,
             mut heads,
             mut bits,
-            counts,
-            starts,
+            mut counts,
+            mut starts,
             mut queue,
         } = self;
         let kept = keep_values(
-            edition, words, ephemerons, &mut heads, &mut bits, &mut queue,
+            edition,
+            words,
+            ephemerons,
+            room > 0,
+            &mut heads,
+            &mut bits,
+            &mut counts,
+            &mut starts,
+            &mut queue,
         );
         if let Err(fault) = kept {
             let tables = Tables {

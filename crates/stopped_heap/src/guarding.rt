@@ -62,8 +62,12 @@ fn hold_more<'w>(
     }
 }
 
-// Puts those of these words that are lost behind the words in `order`.
-fn push_lost(growing: &Growing<'_>, guarded: &[u64], order: &mut Vec<u64>) -> Result<(), AllocError>
+/// Puts those of these words that are lost behind the words in `order`.
+pub(crate) fn push_lost(
+    growing: &Growing<'_>,
+    guarded: &[u64],
+    order: &mut Vec<u64>,
+) -> Result<(), AllocError>
     ensures { OnOk result (order.new.items ≡ order.old.items ++ filter (is_lost growing.now.edition growing.now.marks) guarded.now) }
 {
     for k in 0..guarded.len() {
@@ -86,15 +90,19 @@ fn push_kept(growing: &Growing<'_>, guarded: &[u64], order: &mut Vec<u64>) -> Re
     Ok(())
 }
 
-// Guarded words, the lost ones first, and how many are lost.
+/// Guarded words, the lost ones first, and how many are lost.
 #[derive(Drop)]
-struct Parted {
-    order: Vec<u64>,
-    lost: usize,
+pub(crate) struct Parted {
+    pub order: Vec<u64>,
+    pub lost: usize,
 }
 
-// These guarded words, the lost ones first.
-fn part(alloc: Global, growing: &Growing<'_>, guarded: &[u64]) -> Result<Parted, AllocError>
+/// These guarded words, the lost ones first.
+pub(crate) fn part(
+    alloc: Global,
+    growing: &Growing<'_>,
+    guarded: &[u64],
+) -> Result<Parted, AllocError>
     ensures order { IfOk result (λ parted. parted.order.items ≡ filter (is_lost growing.now.edition growing.now.marks) guarded.now ++ filter (is_value growing.now.edition growing.now.marks) guarded.now) }
     ensures count { IfOk result (λ parted. parted.lost ≡ length (filter (is_lost growing.now.edition growing.now.marks) guarded.now)) }
 {

@@ -29,12 +29,15 @@ mod collecting;
 mod collecting_lent;
 mod ephemerons;
 mod fault;
+mod finalizing;
 mod finding;
 mod forwarding;
 mod found;
 mod given;
 mod growing;
+mod growth;
 mod guarding;
+mod holding;
 mod in_place;
 mod kept;
 mod lane;
@@ -55,6 +58,7 @@ mod marks;
 mod meeting;
 mod offsets;
 mod places;
+mod regrowing;
 mod rounds;
 mod runs;
 mod shape;
@@ -76,8 +80,10 @@ pub use fault::{
     BitsFault, ByBitsFault, CheckFault, CollectFault, CollectLentFault, FinishFault, JoinFault,
     LentFault, LookFault, MarksFault, MarksLentFault, MeetFault, Missing, SlideFault, SurveyFault,
 };
+pub use finalizing::Ordered;
 pub use given::{collect_by_bits, slid_is_sound};
 pub use growing::{Growing, NotGrown};
+pub use growth::{Growth, NotGrowth};
 pub use guarding::{Guarded, survey_guarded};
 pub use in_place::{collect_in_place, collect_in_place_lent};
 pub use lane::Lane;

@@ -1,5 +1,5 @@
 //! Makes the tables of a survey.
-ghost use Rattle.std.specs.Prelude.{◌≡◌, IfOk, IfErr};
+ghost use Rattle.std.specs.Prelude.{◌≡◌, ◌+◌, ◌/◌, length, IfOk, IfErr};
 ghost use Rattle.stopped_heap.specs.Reached.{AreReached, IsSound, IsFaultOf};
 ghost use Rattle.stopped_heap.specs.Surveys.{marks_of, AreTables};
 
@@ -28,6 +28,7 @@ pub(crate) fn tables_of(
     ensures reached { IfOk result (λ tables. AreReached edition words.now roots.now (marks_of tables.heads.items)) }
     ensures sound { IfOk result (λ tables. IsSound (record { edition = edition; words = words.now; marks = marks_of tables.heads.items; roots = roots.now })) }
     ensures tables { IfOk result (λ tables. AreTables edition words.now tables.heads.items tables.bits.items tables.counts.items) }
+    ensures long { IfOk result (λ tables. length tables.heads.items ≡ (length words.now + 63) / 64) }
     ensures fault { IfErr result (IsFaultOf edition words.now roots.now) }
 {
     if words.len() > edition.max_words() || roots.len() > edition.max_roots() {

@@ -1,12 +1,12 @@
 //! Marks what the roots reach.
-ghost use Rattle.std.specs.Prelude.{◌≡◌, ℕ, ◌+◌, ◌*◌, ◌^◌, ◌<◌, ◌≤◌, true, false, [], length, vec_capacity, IfErr, OnOk};
+ghost use Rattle.std.specs.Prelude.{◌≡◌, ℕ, ◌+◌, ◌*◌, ◌^◌, ◌<◌, ◌≤◌, true, false, List, [], length, vec_capacity, IfErr, OnOk};
 ghost use Rattle.heap_layout.specs.Bits.{bit};
 ghost use Rattle.heap_layout.specs.Header.{refs_of, weak_of, size_of};
 ghost use Rattle.heap_layout.specs.Heap.{header_at, object_at, IsPlaced};
 ghost use Rattle.heap_layout.specs.Limits.{most_words, most_roots};
 ghost use Rattle.stopped_heap.specs.Reached.{IsReachedFrom, IsFaultOf, IsWordOf};
 ghost use Rattle.stopped_heap.specs.Meeting.{AllLead, AreMet, AreOnce, IsDone, AreApart};
-ghost use Rattle.stopped_heap.specs.Growing.{roots_on, IsBegun, IsMoreFaultOf};
+ghost use Rattle.stopped_heap.specs.Growing.{roots_on, IsBegun, IsBegunIn, IsMoreFaultOf, IsOnward, IsSeenFaultOf};
 ghost use Rattle.stopped_heap.specs.declared.fault.SurveyFault.TheVariants as survey;
 
 use crate::bits::take_run;
@@ -135,6 +135,7 @@ pub(crate) fn mark_with(
 
 /// The same where objects were marked before, and more are now, from these roots. The queue has those that were marked,
 /// and after them those that are met now. Of those before no reference is followed again, and no word is looked at.
+#[inline(always)]
 pub(crate) fn mark_on(
     edition: Edition,
     words: &[u64],
@@ -156,6 +157,39 @@ pub(crate) fn mark_on(
     ensures apart { OnOk result (AreApart edition words.now heads.new) }
     ensures roots { OnOk result (AllLead edition (length words.now) roots.now) }
     ensures fault { IfErr result (IsMoreFaultOf edition words.now queue.old.items roots.now) }
+    ensures same { length heads.new ≡ length heads.old }
+    ensures long { length bits.new ≡ length bits.old }
+    ensures short { IfErr result (λ fault. fault ≡ survey.OutOfMemory → vec_capacity queue.old < length words.now) }
+    ensures capacity { vec_capacity queue.old ≤ vec_capacity queue.new }
+    ensures met { OnOk result (AreMet queue.new.items heads.new) }
+    ensures once { OnOk result (AreOnce (length words.now) queue.new.items) }
+{
+    if let Err(fault) = mark_in(edition, words, roots, heads, bits, queue) {
+        return Err(fault);
+    }
+    Ok(())
+}
+
+/// The same in words that may have been written to since the objects in the queue were marked. Whatever words were seen
+/// then, and are the same where no bit is set: of these is all that is found.
+pub(crate) fn mark_in(
+    edition: Edition,
+    words: &[u64],
+    roots: &[u64],
+    heads: &mut [u64],
+    bits: &mut [u64],
+    queue: &mut Vec<u32>,
+) -> Result<(), SurveyFault>
+    requires few { length words.now ≤ 2 ^ 31 }
+    requires sizes { (length words.now ≤ most_words edition) × (length roots.now ≤ most_roots edition) }
+    requires few_bits { length heads.old ≤ 2 ^ 25 }
+    requires room { length words.now ≤ 64 * length heads.old }
+    requires long { length bits.old ≡ length heads.old }
+    requires met { AreMet queue.old.items heads.old }
+    requires once { AreOnce (length words.now) queue.old.items }
+    ensures onward { OnOk result ((seen : List ℕ) → IsBegunIn edition words.now seen queue.old.items heads.old bits.old → IsOnward edition seen queue.old.items roots.now heads.new bits.new) }
+    ensures stay { OnOk result ((j : ℕ) → bit bits.old j ≡ true → bit bits.new j ≡ true) }
+    ensures fault { IfErr result (λ fault. (seen : List ℕ) → IsBegunIn edition words.now seen queue.old.items heads.old bits.old → IsSeenFaultOf edition words.now seen queue.old.items roots.now fault) }
     ensures same { length heads.new ≡ length heads.old }
     ensures long { length bits.new ≡ length bits.old }
     ensures short { IfErr result (λ fault. fault ≡ survey.OutOfMemory → vec_capacity queue.old < length words.now) }
@@ -187,14 +221,11 @@ fn mark_by(
     requires few_bits { length heads.old ≤ 2 ^ 25 }
     requires room { length words.now ≤ 64 * length heads.old }
     requires long { length bits.old ≡ length heads.old }
-    requires begun { IsBegun edition words.now queue.old.items heads.old bits.old }
-    ensures reached { OnOk result ((i : ℕ) → bit heads.new i ≡ true → IsReachedFrom edition words.now (roots_on queue.old.items roots.now) i) }
-    ensures all { OnOk result ((i : ℕ) → IsReachedFrom edition words.now (roots_on queue.old.items roots.now) i → bit heads.new i ≡ true) }
-    ensures done { OnOk result ((i : ℕ) → bit heads.new i ≡ true → IsDone edition words.now bits.new i) }
-    ensures only { OnOk result ((j : ℕ) → bit bits.new j ≡ true → (i : ℕ) × (bit heads.new i ≡ true) × IsWordOf edition words.now i j) }
-    ensures apart { OnOk result (AreApart edition words.now heads.new) }
-    ensures roots { OnOk result (AllLead edition (length words.now) roots.now) }
-    ensures fault { IfErr result (IsMoreFaultOf edition words.now queue.old.items roots.now) }
+    requires met { AreMet queue.old.items heads.old }
+    requires once { AreOnce (length words.now) queue.old.items }
+    ensures onward { OnOk result ((seen : List ℕ) → IsBegunIn edition words.now seen queue.old.items heads.old bits.old → IsOnward edition seen queue.old.items roots.now heads.new bits.new) }
+    ensures stay { OnOk result ((j : ℕ) → bit bits.old j ≡ true → bit bits.new j ≡ true) }
+    ensures fault { IfErr result (λ fault. (seen : List ℕ) → IsBegunIn edition words.now seen queue.old.items heads.old bits.old → IsSeenFaultOf edition words.now seen queue.old.items roots.now fault) }
     ensures same { length heads.new ≡ length heads.old }
     ensures long { length bits.new ≡ length bits.old }
     ensures short { IfErr result (λ fault. fault ≡ survey.OutOfMemory → vec_capacity queue.old < length words.now) }

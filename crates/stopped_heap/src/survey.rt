@@ -41,7 +41,7 @@ pub struct Survey<'w> {
 }
 
 impl<'w> Model for Survey<'w> {
-    ghost use Rattle.std.specs.Prelude.{◌*◌, ◌≤◌, vec_capacity};
+    ghost use Rattle.std.specs.Prelude.{◌≡◌, ◌+◌, ◌*◌, ◌/◌, ◌≤◌, length, vec_capacity};
     ghost use Rattle.stopped_heap.specs.Starts.{AreStarts};
     ghost use Rattle.stopped_heap.specs.Surveys.{surveyed, Surveyed, AreTables};
     ghost use Rattle.stopped_heap.specs.Tables.{HaveRoom};
@@ -52,7 +52,8 @@ impl<'w> Model for Survey<'w> {
 
     ghost invariant = { λ survey. AreTables survey.edition survey.words.now survey.heads.items survey.bits.items survey.counts.items
         × HaveRoom survey.room (vec_capacity survey.heads) (vec_capacity survey.bits) (vec_capacity survey.counts) (vec_capacity survey.queue)
-        × AreStarts survey.heads.items survey.starts.items × (survey.room ≤ 64 * vec_capacity survey.starts) };
+        × AreStarts survey.heads.items survey.starts.items × (survey.room ≤ 64 * vec_capacity survey.starts)
+        × (length survey.heads.items ≡ (length survey.words.now + 63) / 64) };
 }
 
 impl<'w> Survey<'w> {

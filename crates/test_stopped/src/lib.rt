@@ -22,12 +22,15 @@ mod drawn_lent;
 mod drawn_surveys;
 #[cfg(test)]
 mod expected;
+mod finalizing;
 #[cfg(test)]
 mod given_bits;
 #[cfg(test)]
 mod given_lanes;
 #[cfg(test)]
 mod growing;
+#[cfg(test)]
+mod growths;
 #[cfg(test)]
 mod guarding;
 #[cfg(test)]

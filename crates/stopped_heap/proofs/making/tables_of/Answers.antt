@@ -37,5 +37,6 @@ returns c =
         offsets = offsets;
         same = omega (arith, heads_long, bits_long, c.in_ok-heads.ensures.len, c.in_ok-bits.ensures.len);
       };
+      long = omega (arith, heads_long, c.in_ok-heads.ensures.len, c.div_ceil-blocks.ensures);
       fault = tt;
     })

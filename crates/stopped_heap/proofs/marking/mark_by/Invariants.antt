@@ -1,13 +1,18 @@
-use Rattle.std.proofs.Common.{◌≡◌, length, ◌-◌, ◌≤◌, vec_capacity}
-use Rattle.stopped_heap.specs.Growing.{roots_on}
-use Rattle.stopped_heap.proofs.Reaching.{IsFollowed}
-use Rattle.stopped_heap.proofs.Spread.{IsSpread}
+use Rattle.std.proofs.Common.{◌≡◌, ℕ, List, true, length, ◌-◌, ◌≤◌, vec_capacity}
+use Rattle.heap_layout.specs.Bits.{bit}
+use Rattle.stopped_heap.specs.Growing.{IsBegunIn}
+use Rattle.stopped_heap.specs.Meeting.{AreMet, AreOnce}
+use Rattle.stopped_heap.proofs.Seen.{IsSeenTo}
 use Rattle.stopped_heap.proofs.marking.mark_by.Given as goal
 
 abbrev pub invariant-loop-next : goal.invariant-loop-next
 invariant-loop-next l = record {
-  followed : IsFollowed l.edition l.words (roots_on l.fn.queue.items l.roots) l.queue.items l.next;
-  spread : IsSpread l.edition l.words l.queue.items l.next l.heads l.bits;
+  seen : (seen : List ℕ) → IsBegunIn l.edition l.words seen l.fn.queue.items l.fn.heads l.fn.bits
+      → IsSeenTo l.edition seen l.fn.queue.items l.roots l.queue.items l.next l.heads l.bits;
+  met : AreMet l.queue.items l.heads;
+  once : AreOnce (length l.words) l.queue.items;
+  same : length l.heads ≡ length l.bits;
+  stay : (j : ℕ) → bit l.fn.bits j ≡ true → bit l.bits j ≡ true;
   long : length l.heads ≡ length l.fn.heads;
   room : vec_capacity l.fn.queue ≤ vec_capacity l.queue;
 }

@@ -26,4 +26,5 @@ invariant_of-result c =
       },
       subst (λ (hs : List ℕ). AreStarts hs c.put_starts.new.starts.items) c.deref-2.ensures.value c.put_starts.ensures.starts,
       omega (arith, c.self.invariant.4, c.put_starts.ensures.capacity),
+      grown.sized,
     )

@@ -13,4 +13,5 @@ invariant_of-result c = (
   },
   subst (λ (hs : List ℕ). AreStarts hs c.in_ok-starts.starts.items) c.deref.ensures.value c.in_ok-starts.ensures,
   omega arith,
+  c.in_ok-heads.ensures.long,
 )

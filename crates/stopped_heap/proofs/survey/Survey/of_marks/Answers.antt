@@ -41,6 +41,7 @@ invariant_of-result c =
       record { for_heads = omega arith; for_bits = omega arith; for_counts = omega (arith, c.in_ok-counts.ensures.long); for_queue = omega arith },
       c.in_ok-starts.ensures,
       omega arith,
+      omega (arith, c.if-marks-blocks.false, c.div_ceil-blocks.ensures),
     )
 
 pub returns-clause-sound : goal.returns-clause-sound

@@ -63,4 +63,5 @@ invariant_of-result g c =
       record { for_heads = omega arith; for_bits = omega arith; for_counts = omega (arith, c.in_ok-counts.ensures.long); for_queue = omega arith },
       starts,
       omega arith,
+      omega (arith, heads_long, c.in_ok-heads.ensures.len, c.div_ceil-blocks.ensures),
     )

@@ -1,0 +1,44 @@
+use Rattle.std.proofs.Common.{◌*◌, ◌≤◌, length, sym, subst, List, ℕ, arith}
+use Rattle.mark_tables.specs.MarkBitmap.{AreOffsets}
+use Rattle.stopped_heap.specs.Starts.{AreStarts}
+use Rattle.stopped_heap.specs.Surveys.{told}
+use Rattle.stopped_heap.proofs.FoundIn.{grown-found}
+use Rattle.stopped_heap.proofs.Grown.{marked-told, marked-indices}
+use Rattle.stopped_heap.proofs.growth.Growth.settle.Goals as goal
+
+pub invariant_of-result : goal.invariant_of-result
+invariant_of-result c =
+    let inside = c.self.inside in
+    let seen = c.self.invariant.0.0 in
+    let grown = c.self.invariant.0.2 in
+    let room = c.self.invariant.1 in
+    let heads = inside.heads.items in
+    let bits = inside.bits.items in
+    let fits : length seen ≤ 64 * length bits = omega (arith, grown.sized, grown.same) in (
+      (
+        seen,
+        c.self.invariant.0.1,
+        record {
+          sound = marked-told inside.edition seen heads bits grown.begun.few grown.begun.marked;
+          indices = marked-indices inside.edition seen heads bits grown.begun.few grown.begun.marked fits;
+          offsets = subst (λ (bs : List ℕ). AreOffsets bs c.put_offsets.new.offsets.items) c.deref.ensures.value c.put_offsets.ensures.offsets;
+          same = sym grown.same;
+        },
+      ),
+      record {
+        for_heads = room.for_heads;
+        for_bits = room.for_bits;
+        for_counts = omega (arith, room.for_counts, c.put_offsets.ensures.capacity);
+        for_queue = room.for_queue;
+      },
+      subst (λ (hs : List ℕ). AreStarts hs c.put_starts.new.starts.items) c.deref-2.ensures.value c.put_starts.ensures.starts,
+      omega (arith, c.self.invariant.4, c.put_starts.ensures.capacity),
+    )
+
+pub returns-clause-found : goal.returns-clause-found
+returns-clause-found c =
+    let inside = c.self.inside in
+    let tables = c.self.invariant.0 in (
+      told inside.edition tables.0 inside.heads.items,
+      grown-found inside.edition inside.count inside.room inside.queue.items inside.heads.items inside.bits.items tables.0 tables.1 tables.2,
+    )
