@@ -124,13 +124,13 @@ module _ (outcome : Outcome) (is : outcome.refusal ≡ Some CannotPrint) where
   judged heap now (inr (inl (fault, first, same))) = other_moved fault (stops_by _ _ same)
   judged heap now (inr (inr same)) = other_memory _ same
 
-  mapped : (heap : Heap) → IsMapped heap outcome → ⊥
-  mapped heap (inl (picture, whole, same)) = not_makes _ _ _ same
-  mapped heap (inr same) = other_memory _ same
+  mapped : (heap : Heap) (dump : Option Dumped) → IsMapped heap dump outcome → ⊥
+  mapped heap dump (inl (picture, whole, shows, same)) = not_makes _ _ _ same
+  mapped heap dump (inr same) = other_memory _ same
 
-  of_map : {F W : Type 0} (disk : Disk F W) (large : Bool) (image : List ℕ) (dump : Option (List ℕ)) → SomeMap disk large image dump (λ heap. IsMapped heap outcome) → ⊥
-  of_map disk large image None (heap, at, h) = mapped heap h
-  of_map disk large image (Some path) (heap, at, (dump, there, h)) = mapped heap h
+  of_map : {F W : Type 0} (disk : Disk F W) (large : Bool) (image : List ℕ) (dump : Option (List ℕ)) → SomeMap disk large image dump (λ heap drawn. IsMapped heap drawn outcome) → ⊥
+  of_map disk large image None (heap, at, h) = mapped heap None h
+  of_map disk large image (Some path) (heap, at, (dump, there, h)) = mapped heap (Some dump) h
 
   pub no_outcome : {F W : Type 0} (disk : Disk F W) (task : Task) → IsOutcomeOf disk task outcome → ⊥
   no_outcome disk (tasks.Plan image large) (heap, at, h) = planned heap h

@@ -29,7 +29,7 @@ use Rattle.moved_heaps.specs.Moved.{Moved, IsLawful}
 use Rattle.moved_heaps.specs.MovedFaults.{IsFirstFault}
 use Rattle.moved_heaps.specs.declared.fault.MovedFault.{MovedFault}
 use Rattle.moved_heaps.specs.declared.fault.MovedFault.TheVariants as moves
-use Rattle.heap_map.specs.Pictures.{IsWhole}
+use Rattle.heap_map.specs.Pictures.{IsPictureOf, IsWhole}
 use Rattle.command_io.specs.Printing.{line_of, named, numbered}
 use Rattle.command_io.specs.declared.refusal.Output.TheVariants as outputs
 use Rattle.command_io.specs.declared.refusal.CommandRefusal.{CommandRefusal}
@@ -214,6 +214,9 @@ IsJudged heap moved outcome =
     (IsLawful heap moved × (outcome ≡ prints (moves_lines (live_words (live heap)) (length heap.marks))))
     ⊎ (((fault : MovedFault) × IsFirstFault heap moved fault × (outcome ≡ stops [] (refusal_of fault))) ⊎ (outcome ≡ stops [] OutOfMemory))
 
--- a whole picture of the heap is made, and its live words are printed; or memory ran out
-abbrev pub IsMapped : Heap → Outcome → Type 0
-IsMapped heap outcome = ((picture : List ℕ) × IsWhole picture × (outcome ≡ makes outputs.Map picture (live_line heap))) ⊎ (outcome ≡ stops [] OutOfMemory)
+-- a whole picture of the heap, and of the dump if one is drawn, is made, and the heap's live words are printed; or
+-- memory ran out
+abbrev pub IsMapped : Heap → Option Dumped → Outcome → Type 0
+IsMapped heap dump outcome =
+    ((picture : List ℕ) × IsWhole picture × IsPictureOf heap dump picture × (outcome ≡ makes outputs.Map picture (live_line heap)))
+    ⊎ (outcome ≡ stops [] OutOfMemory)

@@ -101,8 +101,10 @@ RefusesCycleAt disk asked refusal =
 
 -- ---- a heap that is drawn, and a dump of it, if one is drawn too
 
-abbrev pub SomeMap : {F W : Type 0} → Disk F W → Bool → List ℕ → Option (List ℕ) → (Heap → Type 0) → Type 0
-SomeMap disk large image dump P = MatchOption dump (SomeHeapAt disk large image P) (λ path. SomeAudit disk false large image path (λ heap _. P heap))
+-- P holds of the heap of the image at a path, and of the dump at another, if a path of a dump is given
+abbrev pub SomeMap : {F W : Type 0} → Disk F W → Bool → List ℕ → Option (List ℕ) → (Heap → Option Dumped → Type 0) → Type 0
+SomeMap disk large image dump P =
+    MatchOption dump (SomeHeapAt disk large image (λ heap. P heap None)) (λ path. SomeAudit disk false large image path (λ heap read. P heap (Some read)))
 
 abbrev pub RefusesMapAt : {F W : Type 0} → Disk F W → Bool → List ℕ → Option (List ℕ) → CommandRefusal → Type 0
 RefusesMapAt disk large image dump refusal = MatchOption dump (RefusesHeapAt disk large image refusal) (λ path. RefusesAuditAt disk false large image path refusal)

@@ -1,8 +1,8 @@
 //! The command `map`.
-ghost use Rattle.std.specs.Prelude.{◌≡◌, false, IfOk, option_map};
+ghost use Rattle.std.specs.Prelude.{◌≡◌, false, IfOk, Some, option_map};
 ghost use Rattle.std.specs.String.{string_bytes};
 ghost use Rattle.comp_audit.specs.Judged.{faults, Judges};
-ghost use Rattle.heap_map.specs.Pictures.{IsWhole};
+ghost use Rattle.heap_map.specs.Pictures.{IsPictureOf, IsWhole};
 ghost use Rattle.commands.specs.TaskAnswers.{IsAnswered, IsComing};
 ghost use Rattle.commands.specs.Compared.{verdict_of};
 ghost use Rattle.commands.specs.Inputs.{RefusesMapAt, SomeMap};
@@ -37,7 +37,7 @@ pub fn map_at<F: Files>(
     files: &mut F,
     run: &MapRun<'_>,
 ) -> Result<Answer, CommandRefusal>
-    ensures { IsAnswered (F.disk files.old) files.old files.new (λ outcome. SomeMap (F.disk files.old) run.now.large run.now.image.now (option_map (λ path. path.now) run.now.dump) (λ heap. IsMapped heap outcome)) (RefusesMapAt (F.disk files.old) run.now.large run.now.image.now (option_map (λ path. path.now) run.now.dump)) result }
+    ensures { IsAnswered (F.disk files.old) files.old files.new (λ outcome. SomeMap (F.disk files.old) run.now.large run.now.image.now (option_map (λ path. path.now) run.now.dump) (λ heap dump. IsMapped heap dump outcome)) (RefusesMapAt (F.disk files.old) run.now.large run.now.image.now (option_map (λ path. path.now) run.now.dump)) result }
 {
     match run.dump {
         Some(path) => {
@@ -75,7 +75,7 @@ fn drawn(
     heap: MarkedHeap,
     dump: Option<Dump<'static>>,
 ) -> Result<Answer, CommandRefusal>
-    ensures { IsComing (IsMapped heap) result }
+    ensures { IsComing (IsMapped heap dump.entry) result }
 {
     let plan = Plan::new(alloc, rt, heap)?;
     let picture = match dump {
@@ -87,7 +87,8 @@ fn drawn(
 
 // Draws the heap of a plan, and a dump of it. Err if out of memory.
 fn draw_judged(alloc: Global, plan: &Plan, judged: JudgedDump) -> Result<String, AllocError>
-    ensures { IfOk result (λ picture. IsWhole (string_bytes picture)) }
+    ensures whole { IfOk result (λ picture. IsWhole (string_bytes picture)) }
+    ensures shows { IfOk result (λ picture. IsPictureOf plan.now (Some judged.dump) (string_bytes picture)) }
 {
     let view = DumpView {
         dump: &judged.dump,
@@ -99,7 +100,8 @@ fn draw_judged(alloc: Global, plan: &Plan, judged: JudgedDump) -> Result<String,
 
 // A dump with what its audit finds, and what is said of a fault. Err if out of memory.
 fn judged(alloc: Global, plan: &Plan, dump: Dump<'static>) -> Result<JudgedDump, OutOfMemory>
-    ensures { IfOk result (λ judged. Judges (faults plan.now judged.dump) (verdict_of judged.fault)) }
+    ensures same { IfOk result (λ judged. judged.dump ≡ dump.entry) }
+    ensures judges { IfOk result (λ judged. Judges (faults plan.now judged.dump) (verdict_of judged.fault)) }
 {
     match audit(alloc, plan, &dump)? {
         Verdict::Yes => Ok(JudgedDump {

@@ -1,4 +1,4 @@
-use Rattle.std.proofs.Common.{false, inl}
+use Rattle.std.proofs.Common.{false, Some, inl}
 use Rattle.std.proofs.lemmas.Result.{err_from_is_err_and}
 use Rattle.commands.specs.Inputs.{RefusesAuditAt, SomeAudit}
 use Rattle.commands.specs.HeapTasks.{IsMapped}
@@ -27,5 +27,5 @@ returns-in_ok-heap-in-Some g c =
     let at_dump = read.ensures.dump in
     let heap = rw (asked.image, asked.large) at at_heap in
     let dump = rw (asked.large, asked.words, asked.dump) at at_dump in
-    let comes : Outcome → Type 0 = λ outcome. SomeAudit disk false large image path (λ heap _. IsMapped heap outcome) in
-    rw c.in-Some.is (of_coming disk c.args.files.now c.audited_at.new.files comes (RefusesAuditAt disk false large image path) (IsMapped read.heap) c.drawn.result (λ outcome h. (read.heap, heap, (read.dump, dump, h))) read.ensures.left c.drawn.ensures)
+    let comes : Outcome → Type 0 = λ outcome. SomeAudit disk false large image path (λ heap dump. IsMapped heap (Some dump) outcome) in
+    rw c.in-Some.is (of_coming disk c.args.files.now c.audited_at.new.files comes (RefusesAuditAt disk false large image path) (IsMapped read.heap (Some read.dump)) c.drawn.result (λ outcome h. (read.heap, heap, (read.dump, dump, h))) read.ensures.left c.drawn.ensures)
