@@ -29,5 +29,6 @@ pub mod Judging
 pub mod Telling
 pub mod Moves
 pub mod Guarding
+pub mod Growing
 pub mod Paging
 pub mod Touching

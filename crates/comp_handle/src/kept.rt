@@ -5,7 +5,7 @@ use heap_layout::MarkedHeap;
 use mark_job::Job;
 use page_plan::Plan;
 use std::sync::Arc;
-use stopped_heap::{Lane, Looks, Places, Tables};
+use stopped_heap::{Growth, Lane, Looks, Places, Tables};
 
 /// What a handle keeps.
 #[derive(Drop)]
@@ -26,6 +26,8 @@ pub enum Kept {
     Survey(Arc<Places>),
     /// Tables for surveys.
     Tables(Tables),
+    /// A survey of a heap at rest that grows.
+    Growing(Growth),
     /// A job that marks a heap at rest.
     Job(Arc<Job>),
     /// The pages of a slide by first touch.

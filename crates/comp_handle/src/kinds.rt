@@ -1,6 +1,6 @@
 //! What is kept, by its kind: taken out, or looked at.
 ghost use Rattle.std.specs.Prelude.{◌≡◌, None, Some, IfErr, IfOk, MatchOption};
-ghost use Rattle.comp_handle.specs.HandleKinds.{crew_in, end_in, heap_in, job_in, lane_in, looks_in, marking_in, mutator_in, pages_in, plan_in, survey_in, tables_in};
+ghost use Rattle.comp_handle.specs.HandleKinds.{crew_in, end_in, growing_in, heap_in, job_in, lane_in, looks_in, marking_in, mutator_in, pages_in, plan_in, survey_in, tables_in};
 ghost use Rattle.comp_handle.specs.declared.kept.Kept.TheVariants as kinds;
 
 use crate::kept::Kept;
@@ -11,7 +11,7 @@ use heap_layout::MarkedHeap;
 use mark_job::Job;
 use page_plan::Plan;
 use std::sync::Arc;
-use stopped_heap::{Lane, Looks, Places, Tables};
+use stopped_heap::{Growth, Lane, Looks, Places, Tables};
 
 /// The heap that is kept. Err with what is kept if it is none.
 pub(crate) fn into_heap(kept: Kept) -> Result<MarkedHeap, Kept>
@@ -75,6 +75,17 @@ pub(crate) fn into_tables(kept: Kept) -> Result<Tables, Kept>
 {
     match kept {
         Kept::Tables(tables) => Ok(tables),
+        other => Err(other),
+    }
+}
+
+/// The survey that grows that is kept. Err with what is kept if it is none.
+pub(crate) fn into_growing(kept: Kept) -> Result<Growth, Kept>
+    ensures growing { IfOk result (λ growth. kept ≡ kinds.Growing growth) }
+    ensures other { IfErr result (λ left. (left ≡ kept) × (growing_in (Some kept) ≡ None)) }
+{
+    match kept {
+        Kept::Growing(growth) => Ok(growth),
         other => Err(other),
     }
 }
@@ -180,6 +191,16 @@ pub(crate) fn as_survey(kept: &Kept) -> Option<&Arc<Places>>
 {
     match kept {
         Kept::Survey(survey) => Some(survey),
+        _ => None,
+    }
+}
+
+/// The survey that grows that is kept. None if it is none.
+pub(crate) fn as_growing(kept: &Kept) -> Option<&Growth>
+    ensures { MatchOption result (growing_in (Some kept.now) ≡ None) (λ growth. kept.now ≡ kinds.Growing growth.now) }
+{
+    match kept {
+        Kept::Growing(growth) => Some(growth),
         _ => None,
     }
 }

@@ -9,6 +9,7 @@ mod crewing;
 mod dumping;
 mod ending;
 mod facts;
+mod growing;
 mod guarding;
 mod handle;
 mod helping;
@@ -47,6 +48,9 @@ pub use dumping::copy_dump_of;
 pub use ending::{Question, Written, ask, page_entry, page_words};
 pub use facts::{
     EndFacts, HeapFacts, MutatorFacts, PlanFacts, end_facts, heap_facts, mutator_facts, plan_facts,
+};
+pub use growing::{
+    begin_growing, begin_growing_lent, grow, grow_by_values, keeps, return_growing, settle_growing,
 };
 pub use guarding::survey_guarded;
 pub use handle::Handle;

@@ -16,7 +16,7 @@ enum { LISTS = 10, LENGTH = 50, ROOM = 16 * LISTS * LENGTH, EDITION = 4 };
 /* How a try ends: nobody noticed, or the library or the turn refused something. A signal is a fault of the memory. */
 enum { UNNOTICED = 0, REFUSED = 1, BROKEN = 2 };
 
-static const uint64_t pair_header = COMPRESSOR_HEADER(2, 0, 0, 7);
+static const uint64_t pair_header = COMPRESSOR_HEADER_REFS(2, 7);
 
 static uint64_t words[ROOM];
 static compressor_space space;

@@ -34,7 +34,7 @@ static void heap_poll(void) {
 }
 
 static uint64_t pair(uint64_t first, uint64_t rest) { /* it never collects: `rest` still leads there */
-    const uint64_t made = compressor_new(&space, &buffer, COMPRESSOR_HEADER(2, 0, 0, 1), 3);
+    const uint64_t made = compressor_new(&space, &buffer, COMPRESSOR_HEADER_REFS(2, 1), 3);
     if (made == 0) die("more is made between two polls than the room has above its limit");
     compressor_store(&space, made, 0, first);
     compressor_store(&space, made, 1, rest);

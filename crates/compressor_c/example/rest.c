@@ -44,12 +44,30 @@ static uint64_t *zeros(size_t count) {
 static compressor_space space;
 static compressor_buffer buffer;
 
+static const uint64_t pair_header = COMPRESSOR_HEADER_REFS(2, 7);
+
+/* Headers that are constants, of each form: those that the function makes. */
+enum { MOST = 0x7fffffff, HEADERS = 7 };
+#define ALL(of) {of(0, 7), of(2, 0), of(65535, 7), of(65536, 7), of(131071, 7), of(131072, 16383), of(MOST, 7)}
+static const uint64_t headers[3][HEADERS] = {ALL(COMPRESSOR_HEADER_REFS), ALL(COMPRESSOR_HEADER_WEAK),
+                                             ALL(COMPRESSOR_HEADER_DATA)};
+
+static void check_headers(void) {
+    static const uint32_t counts[HEADERS] = {0, 2, 65535, 65536, 131071, 131072, MOST};
+    static const uint32_t tags[HEADERS] = {7, 0, 7, 7, 7, 16383, 7};
+    for (int k = 0; k < HEADERS; k++) {
+        const uint32_t n = counts[k], tag = tags[k];
+        const compressor_shape shapes[3] = {{n, 0, 0, tag}, {0, n, 0, tag}, {0, 0, n, tag}};
+        for (int of = 0; of < 3; of++) {
+            uint64_t header = 0;
+            IS(compressor_shape_header(EDITION, shapes[of], &header) && header == headers[of][k]);
+        }
+    }
+}
+
 /* A pair of a number and a reference. */
 static uint64_t pair(int64_t number, uint64_t rest) {
-    const compressor_shape shape = {2, 0, 0, 7};
-    uint64_t header = 0, made;
-    IS(compressor_shape_header(EDITION, shape, &header));
-    made = compressor_new(&space, &buffer, header, compressor_shape_words(shape));
+    const uint64_t made = compressor_new(&space, &buffer, pair_header, 3);
     IS(made != 0);
     compressor_store(&space, made, 0, compressor_fixnum(number));
     compressor_store(&space, made, 1, rest);
@@ -193,6 +211,7 @@ int main(void) {
     compressor_survey survey = COMPRESSOR_EMPTY;
     compressor_tables tables = COMPRESSOR_EMPTY, again = COMPRESSOR_EMPTY;
 
+    check_headers();
     moved(one, 0);
     make_lists(roots);
     check_lists(roots);

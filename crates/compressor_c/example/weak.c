@@ -34,13 +34,13 @@ static uint64_t make(uint64_t header, size_t fields) {
 }
 static uint64_t *field(uint64_t address, size_t n) { return &words[(uint32_t)address + 1 + n]; }
 static uint64_t pair(uint64_t first, uint64_t rest) {
-    uint64_t made = make(COMPRESSOR_HEADER(2, 0, 0, TAG_PAIR), 2);
+    uint64_t made = make(COMPRESSOR_HEADER_REFS(2, TAG_PAIR), 2);
     *field(made, 0) = first, *field(made, 1) = rest;
     return made;
 }
 /* a table of n ephemerons, known to the runtime by a weak list of all tables */
 static uint64_t table(size_t n) {
-    return tables[table_count++] = make(COMPRESSOR_HEADER(0, 2 * n, 0, TAG_TABLE), 2 * n);
+    return tables[table_count++] = make(COMPRESSOR_HEADER_WEAK(2 * n, TAG_TABLE), 2 * n);
 }
 /* how many ephemerons a table has: from its header */
 static size_t count_of(uint64_t address) {

@@ -5,11 +5,11 @@
    manual of each call, and docs/C.md is the guide; docs/ is installed in share/doc/compressor. The library calls
    malloc, realloc and free, and nothing else.
 
-   Handles. Each kind of thing has a struct of its own: heap, plan, crew, mutator, end; survey, tables, job, marking,
-   looks, lane, pages. A handle is empty or keeps one thing. Begin with COMPRESSOR_EMPTY, or with zero bytes. Only calls
-   write to a handle. It may be moved in memory, and never used from two copies. The handles of one call are not the
-   same handle. What a call makes goes into an empty handle; a drop alone frees what a handle keeps. Where a call says
-   that something goes, its handle is empty then.
+   Handles. Each kind of thing has a struct of its own: heap, plan, crew, mutator, end; survey, tables, growing, job,
+   marking, looks, lane, pages. A handle is empty or keeps one thing. Begin with COMPRESSOR_EMPTY, or with zero bytes.
+   Only calls write to a handle. It may be moved in memory, and never used from two copies. The handles of one call are
+   not the same handle. What a call makes goes into an empty handle; a drop alone frees what a handle keeps. Where a
+   call says that something goes, its handle is empty then.
 
    Arrays. The pointer of an array of length 0 may be null, and no other one. Elements are aligned as their type. An
    array or a struct that is written overlaps no other one, and none overlaps a handle, of the same call; those that are
@@ -83,6 +83,7 @@ typedef struct compressor_mutator { void *at; } compressor_mutator; /* what one 
 typedef struct compressor_end { void *at; } compressor_end;         /* a finished cycle: pages, journals, roots */
 typedef struct compressor_survey { void *at; } compressor_survey;   /* which objects of a heap at rest are live */
 typedef struct compressor_tables { void *at; } compressor_tables;   /* room for a survey, made before it */
+typedef struct compressor_growing { void *at; } compressor_growing; /* a survey that grows, by more roots */
 typedef struct compressor_job { void *at; } compressor_job;         /* the marking of a heap at rest by many threads */
 typedef struct compressor_marking { void *at; } compressor_marking; /* the same in steps, over words that are lent */
 typedef struct compressor_looks { void *at; } compressor_looks;     /* the marking of a heap while its threads go on */
@@ -130,7 +131,7 @@ typedef enum compressor_status {
     COMPRESSOR_OTHER_COUNT = 29,      /* not as many words as were surveyed */
     COMPRESSOR_SHORT_TABLES = 30,     /* (words) there are more words than the tables have room for */
     COMPRESSOR_WRONG_LENGTH = 31,     /* not one block of bits for each 64 words, the last ones in part; or not as many
-                                         words as a marking is of */
+                                         words as a marking is of, or a survey that grows */
     COMPRESSOR_BAD_OPTIONS = 32,      /* (options) a bit that has no meaning */
     /* 32 + n: fault Hn of a heap or an image (docs/FORMATS.md); H11 is COMPRESSOR_OUT_OF_MEMORY */
     COMPRESSOR_TOO_LARGE = 33,        /* more words, marks or roots than the edition allows */
@@ -188,7 +189,8 @@ typedef enum compressor_status {
     COMPRESSOR_STILL_WAITING = 211,   /* (index) this object waits to be looked at */
     COMPRESSOR_MISSING_OBJECT = 212,  /* (index) a lane met this object, and it is in none of those that were joined */
     COMPRESSOR_OTHER_HEAP = 213,      /* the lanes are of two editions, or not of as many words */
-    COMPRESSOR_WRONG_HANDLE = 255         /* a handle of another kind: a cast, or a byte that C wrote */
+    COMPRESSOR_WRONG_HANDLE = 255         /* a handle of another kind: a cast, a byte that C wrote, or a survey that was
+                                             to grow and is over (compressor_growing_return) */
 } compressor_status;
 
 /* An entry of a journal: the stamps of all entries of all pages are the numbers from 0 on. The layout and the kinds are
@@ -327,10 +329,20 @@ static inline int compressor_shape_header(uint32_t edition, compressor_shape s, 
     return 1;
 }
 
-/* Constant expressions, for editions three and four. The header word of counts below 65,536 and a tag below 16,384; the
+/* Constant expressions, for editions three and four. The header word of counts below 65,536 and a tag below 16,384; that
+   of n references, n weak words or n words of data alone, n below 2^31, which is what compressor_shape_header makes; the
    tag of any header word; the word with another tag. */
 #define COMPRESSOR_HEADER(refs, weak, data, tag)                                                              \
     (compressor_word_(refs) | compressor_word_(data) << 16 | compressor_word_(weak) << 32 | compressor_word_(tag) << 48)
+#define COMPRESSOR_MANY_(n, form, tag) (compressor_word_(n) | UINT64_C(form) << 62 | compressor_word_(tag) << 48)
+#define COMPRESSOR_HEADER_REFS(n, tag) \
+    (compressor_word_(n) < 65536u ? COMPRESSOR_HEADER(n, 0, 0, tag) : COMPRESSOR_MANY_(n, 1, tag))
+#define COMPRESSOR_HEADER_WEAK(n, tag) \
+    (compressor_word_(n) < 65536u ? COMPRESSOR_HEADER(0, n, 0, tag) : COMPRESSOR_MANY_(n, 3, tag))
+#define COMPRESSOR_HEADER_DATA(n, tag)                                                     \
+    (compressor_word_(n) < 65536u    ? COMPRESSOR_HEADER(0, 0, n, tag)                     \
+     : compressor_word_(n) < 131072u ? COMPRESSOR_MANY_(compressor_word_(n) << 31, 1, tag) \
+                                     : COMPRESSOR_MANY_(n, 2, tag))
 #define COMPRESSOR_TAG_OF(header) COMPRESSOR_AS_(uint32_t, (header) >> 48 & 0x3fffu)
 #define COMPRESSOR_WITH_TAG(header, tag) \
     (((header) & ~(UINT64_C(0x3fff) << 48)) | compressor_word_(tag) << 48)
@@ -440,7 +452,8 @@ const char *compressor_version_text(void);
    From the survey to the last slide nobody writes to it: all threads of the runtime stand still, or use only pages of
    the other memory that are home (compressor_pages_begin). A root that is not handed in is lost, and one that is
    forwarded twice may be that of another object. Of a refusal that names a word the value is words[index];
-   compressor_object_around of compressor_rest.h has its object. */
+   compressor_object_around of compressor_rest.h has its object. But OBJECT_PAST_END and NOT_A_RUN also name a mark or a
+   bit of the caller's that lies behind the words: so ask whether the index is below word_count. */
 
 /* The whole collection: slides what the roots reach into `to`, from its first word on, and makes the roots lead there.
    Answers the live words; those of `to` behind them stay. in_place: the same down to the first of the words, with no
@@ -458,7 +471,7 @@ compressor_answer compressor_collect_in_place(uint32_t edition, uint64_t *words,
    that are set, bit i % 64 of block i / 64 for the object at index i, in (word_count + 63) / 64 blocks; marks may come
    from anywhere. Refusals: BAD_EDITION; WRONG_LENGTH; TOO_LARGE; memory, or a fault that is there: BAD_ROOT or
    UNMARKED_TARGET, a root or a reference of a marked object that leads to no marked object, OBJECT_TOO_LONG,
-   OBJECT_PAST_END, OVERLAP or BAD_WEAK. */
+   OBJECT_PAST_END, also of a mark behind the words (its index, word_count or more), OVERLAP or BAD_WEAK. */
 compressor_answer compressor_survey_by_roots(uint32_t edition, const uint64_t *words, size_t word_count,
                                              const uint64_t *roots, size_t root_count, compressor_survey *survey);
 compressor_answer compressor_survey_by_marks(uint32_t edition, const uint64_t *words, size_t word_count,
@@ -470,8 +483,8 @@ compressor_answer compressor_survey_by_marks(uint32_t edition, const uint64_t *w
    slide asks of each object what a survey asks. So slide all parts before a root is forwarded. If a part is refused,
    CHANGED or UNMARKED, drop the survey, and survey by the roots: words and roots are as they were. If none is, nothing
    that the roots reach is lost, whoever marked. Refusals: BAD_EDITION, also of editions 1 and 2; TOO_LARGE;
-   WRONG_LENGTH; memory, or a fault that is there: NOT_A_RUN, OBJECT_PAST_END, a bit behind the words, or BAD_ROOT, one
-   that leads to no marked object. */
+   WRONG_LENGTH; memory, or a fault that is there: NOT_A_RUN or OBJECT_PAST_END, either also of a bit behind the words
+   (its index, word_count or more), or BAD_ROOT, one that leads to no marked object. */
 compressor_answer compressor_survey_by_bits(uint32_t edition, uint64_t word_count, const uint64_t *roots,
                                             size_t root_count, const uint64_t *heads, size_t head_count,
                                             const uint64_t *live, size_t live_count, compressor_survey *survey);
@@ -496,10 +509,11 @@ compressor_answer compressor_survey_facts_of(compressor_survey *survey, compress
 compressor_answer compressor_survey_share(compressor_survey *survey, compressor_survey *other);
 
 /* Fills the part with the live words from number `first` on, as they are after the collection. Parts may be filled at
-   the same time, by shares; together they are the collected heap if each of its words is in one of them. Words that
-   were changed since the survey do no harm: the call writes nothing but the part. Takes no memory. Refusals:
-   NO_SUCH_PART or OTHER_COUNT, and the part is as it was; CHANGED or UNMARKED, and it has any words. If the words are
-   those of the survey, and the part ends within the live words, it is done. */
+   the same time, by shares, which shortened no pause where it was measured, and cost more (docs/SPEED.md): fill one.
+   Together they are the collected heap if each of its words is in one of them. Words that were changed since the survey
+   do no harm: the call writes nothing but the part. Takes no memory. Refusals: NO_SUCH_PART or OTHER_COUNT, and the
+   part is as it was; CHANGED or UNMARKED, and it has any words. If the words are those of the survey, and the part ends
+   within the live words, it is done. */
 compressor_answer compressor_survey_slide(compressor_survey *survey, const uint64_t *words, size_t word_count,
                                           uint64_t first, uint64_t *part, size_t part_count);
 
@@ -531,6 +545,37 @@ compressor_answer compressor_survey_by_roots_lent(compressor_tables *tables, uin
                                                   compressor_survey *survey);
 compressor_answer compressor_survey_return(compressor_survey *survey, compressor_tables *tables);
 void compressor_tables_drop(compressor_tables *tables);
+
+/* A survey that grows: it marks what roots reach, and later what more roots reach, at the cost of what they newly
+   reach; in between it says what is kept. So roots may lie in many arrays, and a runtime asks its ephemerons, guardians
+   and finalizers in an order of its own (example/growing.c). Each call is lent the words, as they were: then begin, an
+   also for each of some arrays of roots, and settle make the survey of compressor_survey_by_roots of all these roots.
+   Words that were changed in between do no harm, and compressor_survey_slide finds where it matters.
+   begin: nothing is marked. Refusals: BAD_EDITION; TOO_LARGE; memory. begin_lent: by tables, which go. Refusals, after
+   which they stay: BAD_EDITION; TOO_LARGE; SHORT_TABLES (their room). Takes no memory, nor does also then.
+   also: marks what these roots reach, and looks at no word of an object that was marked before. also_values: keeps the
+   values of ephemerons, three words each as of compressor_survey_guarded, whose holders and keys are kept, and of those
+   whose are kept then, until there is none more. Both answer how many objects are kept so far. Refusals: WRONG_LENGTH,
+   if these are not as many words as it is of, and nothing was done; of also TOO_LARGE, too many roots; memory, 4 bytes
+   for each object that is kept, or a fault that is there, as by_roots: BAD_ROOT has the number among these roots, or
+   that of the word of the ephemerons that is a value. After each but WRONG_LENGTH the survey is over: no words and no
+   roots have changed, and all that is left is to give its tables back, or to drop it.
+   keeps: whether a value is null, an immediate, or the address of an object that is kept so far: 1 or 0. No memory.
+   settle: the survey has all that is kept; answers the live words. It goes. Refusals: memory, some 200 bytes, and the
+   survey is over.
+   return: ends it at any time, and gives the tables back, as compressor_survey_return. Takes no memory. */
+compressor_answer compressor_growing_begin(uint32_t edition, const uint64_t *words, size_t word_count,
+                                           compressor_growing *growing);
+compressor_answer compressor_growing_begin_lent(compressor_tables *tables, uint32_t edition, const uint64_t *words,
+                                                size_t word_count, compressor_growing *growing);
+compressor_answer compressor_growing_also(compressor_growing *growing, const uint64_t *words, size_t word_count,
+                                          const uint64_t *roots, size_t root_count);
+compressor_answer compressor_growing_also_values(compressor_growing *growing, const uint64_t *words, size_t word_count,
+                                                 const uint64_t *ephemerons, size_t ephemeron_words);
+compressor_answer compressor_growing_keeps(compressor_growing *growing, uint64_t value);
+compressor_answer compressor_growing_settle(compressor_growing *growing, compressor_survey *survey);
+compressor_answer compressor_growing_return(compressor_growing *growing, compressor_tables *tables);
+void compressor_growing_drop(compressor_growing *growing);
 
 /* A survey whose marking many threads share. begin: a job that marks what these roots reach, in a copy of these words
    and roots. Refusals: BAD_EDITION; TOO_LARGE; memory. share: another handle of the same job, for another thread, or
@@ -729,8 +774,9 @@ enum compressor_audit_options {
    heap is lawful for its own plan, so a runtime may check itself in its debug builds: without options a fault never
    comes then. */
 compressor_answer compressor_plan_audit(compressor_plan *plan, const uint8_t *bytes, size_t count, uint32_t options);
-/* The same, and of the first fault what is wrong where: a few lines of ASCII, with no 0 at the end. Answers how many
-   bytes they have, 0 if there is no fault. Refusals: BAD_OPTIONS; memory; FILE_..; TOO_SHORT (the count). */
+/* The same, and of the first fault what is wrong where: a few lines of ASCII, with line feeds between them, and at the
+   end neither a line feed nor a 0. Answers how many bytes they have, 0 if there is no fault. Refusals: BAD_OPTIONS;
+   memory; FILE_..; TOO_SHORT (the count). */
 compressor_answer compressor_plan_explain(compressor_plan *plan, const uint8_t *bytes, size_t count, uint32_t options,
                                           uint8_t *out, size_t out_count);
 void compressor_plan_drop(compressor_plan *plan);
@@ -844,13 +890,21 @@ COMPRESSOR_ASSERT_(sizeof(compressor_heap) == 8 && sizeof(compressor_plan) == 8 
 COMPRESSOR_ASSERT_(sizeof(compressor_mutator) == 8 && sizeof(compressor_end) == 8, "handles");
 COMPRESSOR_ASSERT_(sizeof(compressor_survey) == 8 && sizeof(compressor_tables) == 8 && sizeof(compressor_job) == 8,
                    "handles");
-COMPRESSOR_ASSERT_(sizeof(compressor_marking) == 8 && sizeof(compressor_looks) == 8, "handles");
+COMPRESSOR_ASSERT_(sizeof(compressor_marking) == 8 && sizeof(compressor_looks) == 8 && sizeof(compressor_growing) == 8,
+                   "handles");
 COMPRESSOR_ASSERT_(sizeof(compressor_lane) == 8 && sizeof(compressor_pages) == 8, "handles");
 COMPRESSOR_ASSERT_(sizeof(compressor_answer) == 16 && offsetof(compressor_answer, other) == 4, "answer");
 COMPRESSOR_ASSERT_(offsetof(compressor_answer, value) == 8, "answer");
 COMPRESSOR_ASSERT_(sizeof(compressor_entry) == 24 && offsetof(compressor_entry, writer) == 16, "entry");
 COMPRESSOR_ASSERT_(offsetof(compressor_entry, kind) == 17 && offsetof(compressor_entry, offset) == 18, "entry");
 COMPRESSOR_ASSERT_(sizeof(compressor_shape) == 16 && offsetof(compressor_shape, tag) == 12, "shape");
+COMPRESSOR_ASSERT_(COMPRESSOR_HEADER_REFS(65535, 7) == UINT64_C(0x000700000000ffff), "header");
+COMPRESSOR_ASSERT_(COMPRESSOR_HEADER_REFS(65536, 7) == UINT64_C(0x4007000000010000), "header");
+COMPRESSOR_ASSERT_(COMPRESSOR_HEADER_WEAK(65535, 7) == UINT64_C(0x0007ffff00000000), "header");
+COMPRESSOR_ASSERT_(COMPRESSOR_HEADER_WEAK(65536, 7) == UINT64_C(0xc007000000010000), "header");
+COMPRESSOR_ASSERT_(COMPRESSOR_HEADER_DATA(65535, 7) == UINT64_C(0x00070000ffff0000), "header");
+COMPRESSOR_ASSERT_(COMPRESSOR_HEADER_DATA(65536, 7) == UINT64_C(0x4007800000000000), "header");
+COMPRESSOR_ASSERT_(COMPRESSOR_HEADER_DATA(131072, 7) == UINT64_C(0x8007000000020000), "header");
 COMPRESSOR_ASSERT_(sizeof(compressor_heap_facts) == 32 && offsetof(compressor_heap_facts, unused) == 28, "heap facts");
 COMPRESSOR_ASSERT_(sizeof(compressor_plan_facts) == 40 && offsetof(compressor_plan_facts, unused) == 36, "plan facts");
 COMPRESSOR_ASSERT_(sizeof(compressor_mutator_facts) == 64 && offsetof(compressor_mutator_facts, unused) == 60,

@@ -62,6 +62,19 @@ CALL(survey_forward, (compressor_survey *survey, uint64_t *roots, size_t root_co
      (survey, OUT(roots, root_count), root_count))
 CALL(survey_forward_weak, (compressor_survey *survey, uint64_t *words, size_t word_count),
      (survey, OUT(words, word_count), word_count))
+CALL(growing_begin, (uint32_t edition, const uint64_t *words, size_t word_count, compressor_growing *growing),
+     (edition, IN(words, word_count), word_count, growing))
+CALL(growing_begin_lent,
+     (compressor_tables *tables, uint32_t edition, const uint64_t *words, size_t word_count,
+      compressor_growing *growing),
+     (tables, edition, IN(words, word_count), word_count, growing))
+CALL(growing_also,
+     (compressor_growing *growing, const uint64_t *words, size_t word_count, const uint64_t *roots, size_t root_count),
+     (growing, IN(words, word_count), word_count, IN(roots, root_count), root_count))
+CALL(growing_also_values,
+     (compressor_growing *growing, const uint64_t *words, size_t word_count, const uint64_t *ephemerons,
+      size_t ephemeron_words),
+     (growing, IN(words, word_count), word_count, IN(ephemerons, ephemeron_words), ephemeron_words))
 CALL(looks_begin,
      (uint32_t edition, uint64_t word_count, const uint64_t *roots, size_t root_count, compressor_looks *looks),
      (edition, word_count, IN(roots, root_count), root_count, looks))

@@ -4,6 +4,7 @@
 
 mod crew;
 mod end;
+mod growing;
 mod heap;
 mod job;
 mod lane;
