@@ -6,8 +6,8 @@
      heaps.c     marked heaps and plans, and what they refuse; judge.c what another collector left of them
      cycle.c     flips, crews and mutators by one thread; act.c has what a mutator is asked
      end.c       finished cycles, next heaps
-     rest.c      heaps at rest; looks.c their marking by looks, lanes.c by lanes at first; pages.c their slides by
-                 pages; faults.c what is refused
+     rest.c      heaps at rest; looks.c their marking by looks, lanes.c by lanes at first; growing.c surveys that grow;
+                 pages.c slides by pages; faults.c what is refused
      handles.c   empty, full and wrong handles; limits.c editions: shapes, immediates, what is too large
      threads.c   a cycle by four threads; together.c what else they do together */
 #ifndef DRIVER_H
@@ -238,6 +238,13 @@ void refuse_lanes(marking *m, uint64_t index); /* steps of a lane in which this 
    as its last step does. */
 compressor_answer survey_by_looks(uint32_t edition, uint64_t *words, uint64_t count, const uint64_t *roots,
                                   size_t root_count, const uint64_t *heads, compressor_survey *survey);
+/* A survey that grows by steps beside a model, and is settled, refused or dropped; one of all these roots; and one that
+   a fault ends, which answers as it does. */
+void growing_round(const graph *g, const uint64_t *words, uint64_t count);
+void survey_by_growing(uint32_t edition, const uint64_t *words, uint64_t count, const uint64_t *roots,
+                       size_t root_count, uint64_t live, compressor_survey *survey);
+compressor_answer grow_by_fault(uint32_t edition, const uint64_t *words, uint64_t count, const uint64_t *roots,
+                                size_t root_count);
 void slide_pages(compressor_survey *survey, const uint64_t *words, uint64_t count, uint64_t live, uint64_t *to);
 void rest_faults(graph *g, const uint64_t *words, uint64_t count);
 void handles_round(void);

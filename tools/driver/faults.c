@@ -46,6 +46,7 @@ static void collect_faulty(const faulty *f, uint64_t how) {
     else if (how == 4) CALL(a, survey_by_roots, FAULTY, &survey);
     else if (how == 5) CALL(a, survey_by_roots_lent, &tables, FAULTY, &survey);
     else if (how == 6) a = survey_by_looks(FAULTY, NULL, &survey);
+    else if (how == 7) a = grow_by_fault(FAULTY);
     else {
         DONE(0, job_begin, FAULTY, &job);
         if (one_in(2)) CALL(a, job_help, &job, 1);
@@ -118,7 +119,7 @@ static void mark_faulty_in_steps(const faulty *f) {
 static void refuse(faulty *f, uint32_t status, uint64_t number) {
     f->status = status;
     f->number = number;
-    collect_faulty(f, below(8));
+    collect_faulty(f, below(9));
     if (one_in(2)) mark_faulty(f);
     if (one_in(2)) mark_faulty_in_steps(f);
 }

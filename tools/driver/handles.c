@@ -12,6 +12,7 @@ typedef struct all {
     compressor_end end;
     compressor_survey survey, survey_share;
     compressor_tables tables;
+    compressor_growing growing;
     compressor_job job, job_share;
     compressor_marking marking, marking_share;
     compressor_looks looks;
@@ -40,6 +41,12 @@ static void ask_empty(all *a) {
     EMPTY(survey_forward, &a->survey, a->words, 1);
     EMPTY(survey_forward_weak, &a->survey, a->words, 1);
     EMPTY(survey_return, &a->survey, &a->tables);
+    EMPTY(growing_begin_lent, &a->tables, 9, a->words, 1, &a->growing);
+    EMPTY(growing_also, &a->growing, a->words, 1, a->words + 1, 1);
+    EMPTY(growing_also_values, &a->growing, a->words, 1, a->words + 1, 3);
+    EMPTY(growing_keeps, &a->growing, 0);
+    EMPTY(growing_settle, &a->growing, &a->survey);
+    EMPTY(growing_return, &a->growing, &a->tables);
     EMPTY(job_share, &a->job, &a->job_share);
     EMPTY(job_help, &a->job, 1);
     EMPTY(job_finish, &a->job, &a->survey);
@@ -119,6 +126,7 @@ static void drop_all(all *a) {
     DROP(survey_drop, &a->survey);
     DROP(survey_drop, &a->survey_share);
     DROP(tables_drop, &a->tables);
+    DROP(growing_drop, &a->growing);
     DROP(job_drop, &a->job);
     DROP(job_drop, &a->job_share);
     DROP(marking_drop, &a->marking);
@@ -155,6 +163,7 @@ static void ask_full(all *a, compressor_heap *heap) {
     FULL(0, tables_reserve, 3, &a->tables);
     DONE(0, survey_by_roots, 4, a->words, 3, a->words, 0, &a->survey);
     DONE(0, survey_share, &a->survey, &a->survey_share);
+    DONE(0, growing_begin, 4, a->words, 3, &a->growing);
     DONE(0, job_begin, 4, a->words, 3, a->words, 0, &a->job);
     DONE(0, job_share, &a->job, &a->job_share);
     DONE(0, marking_begin, 4, 3, a->words, 0, &a->marking);
@@ -183,6 +192,10 @@ static void ask_full(all *a, compressor_heap *heap) {
     FULL(1, survey_by_roots_lent, &a->tables, 9, a->words, 3, a->words, 0, &a->survey);
     FULL(1, survey_share, &a->survey, &a->survey_share);
     FULL(1, survey_return, &a->survey, &a->tables);
+    FULL(0, growing_begin, 9, a->words, 3, &a->growing);
+    FULL(1, growing_begin_lent, &a->tables, 9, a->words, 3, &a->growing);
+    FULL(1, growing_settle, &a->growing, &a->survey);
+    FULL(1, growing_return, &a->growing, &a->tables);
     FULL(0, job_begin, 9, a->words, 3, a->words, 0, &a->job);
     FULL(1, job_share, &a->job, &a->job_share);
     FULL(1, job_finish, &a->job, &a->survey);
@@ -204,6 +217,13 @@ static void ask_full(all *a, compressor_heap *heap) {
     WRONG(heap_facts_of, (compressor_heap *)(void *)&a->plan, &a->heap_facts);
     WRONG(mutator_touch, (compressor_mutator *)(void *)&a->crew, 0);
     WRONG(survey_return, (compressor_survey *)(void *)&a->job, &(compressor_tables)COMPRESSOR_EMPTY);
+    WRONG(growing_begin_lent, (compressor_tables *)(void *)&a->survey, 4, a->words, 3,
+          &(compressor_growing)COMPRESSOR_EMPTY);
+    WRONG(growing_also, (compressor_growing *)(void *)&a->survey, a->words, 3, a->words, 1);
+    WRONG(growing_also_values, (compressor_growing *)(void *)&a->job, a->words, 3, a->words, 3);
+    WRONG(growing_keeps, (compressor_growing *)(void *)&a->looks, 0);
+    WRONG(growing_settle, (compressor_growing *)(void *)&a->survey, &(compressor_survey)COMPRESSOR_EMPTY);
+    WRONG(growing_return, (compressor_growing *)(void *)&a->survey, &(compressor_tables)COMPRESSOR_EMPTY);
     WRONG(marking_share, (compressor_marking *)(void *)&a->job, &(compressor_marking)COMPRESSOR_EMPTY);
     WRONG(marking_help, (compressor_marking *)(void *)&a->looks, a->words, 3, 1);
     WRONG(marking_meet, (compressor_marking *)(void *)&a->looks, a->words, 1);

@@ -64,6 +64,7 @@ void limits_round(void) {
     compressor_heap heap = COMPRESSOR_EMPTY;
     compressor_survey survey = COMPRESSOR_EMPTY;
     compressor_tables tables = COMPRESSOR_EMPTY;
+    compressor_growing growing = COMPRESSOR_EMPTY;
     compressor_job job = COMPRESSOR_EMPTY;
     compressor_marking marking = COMPRESSOR_EMPTY;
     compressor_looks looks = COMPRESSOR_EMPTY;
@@ -90,6 +91,9 @@ void limits_round(void) {
         ANSWERS(COMPRESSOR_BAD_EDITION, edition, lane_begin, edition, too_many, &lane);
         ANSWERS(COMPRESSOR_BAD_EDITION, edition + 4, lane_begin, edition + 4, too_many, &lane);
         ANSWERS(COMPRESSOR_TOO_LARGE, 0, lane_begin, edition + 2, too_many, &lane);
+        DONE(0, growing_begin, edition, words, 2, &growing);
+        ANSWERS(COMPRESSOR_TOO_LARGE, 0, growing_also, &growing, words, 2, roots, ROOTS);
+        DROP(growing_drop, &growing);
         ANSWERS(COMPRESSOR_TOO_LARGE, 0, job_begin, edition, words, 2, roots, ROOTS, &job);
         DONE(0, heap_by_roots, edition + 2, words, 2, roots, ROOTS, &heap);
         DROP(heap_drop, &heap);

@@ -320,7 +320,8 @@ static void collect_by_survey(rest *r, uint64_t how, const bits *b) {
     compressor_tables tables = COMPRESSOR_EMPTY;
     uint64_t room = 0;
     if (how == 4) {
-        if (one_in(2)) DONE(r->live, survey_by_roots, HEAP, &survey);
+        if (one_in(3)) DONE(r->live, survey_by_roots, HEAP, &survey);
+        else if (one_in(2)) survey_by_growing(HEAP, r->live, &survey);
         else survey_with_guards(r, &survey);
     }
     if (how == 5) {
@@ -375,6 +376,7 @@ void rest_round(graph *g, uint64_t *words, uint64_t count) {
         go_on(r);
         expect(r, how == 5 || how == 8);
         if (one_in(3)) rest_faults(g, r->words, r->count);
+        if (one_in(2)) growing_round(g, r->words, r->count);
         b = bits_of(r);
         slid(r);
         if (how < 4) collect_at_once(r, how);

@@ -186,7 +186,8 @@ void rest_by_threads(graph *g, uint64_t *words, uint64_t count) {
     memset(workers, 0, sizeof workers);
     graph_trace(g, 0);
     live = live_words(g);
-    if (g->edition < 3 || one_in(2)) mark_together(g, words, count, roots, live, &survey);
+    if (one_in(4)) survey_by_growing(g->edition, words, count, roots, g->root_count, live, &survey);
+    else if (g->edition < 3 || one_in(2)) mark_together(g, words, count, roots, live, &survey);
     else mark_in_steps(g, words, count, roots, live, &survey);
     graph_slide(g);
     wanted = (uint64_t *)zeros(live, sizeof *wanted);

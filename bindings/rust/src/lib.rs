@@ -85,13 +85,20 @@
 //!
 //! Refusals are numbered by name ([`Refusal`]). `OutOfMemory` may come in place of what is named behind it.
 //!
+//! # The order of arguments
+//!
+//! It is that of compressor.h and compressor_rest.h: what is lent, as tables or a buffer, the object, the number of a
+//! word, the value; of arrays the words, the roots, the marks or bits, and what is filled. Some calls were released with
+//! another one, which they keep: [`collect_into`](rest::Space::collect_into) and
+//! [`collect_into_lent`](rest::Space::collect_into_lent) have the space that is filled before the roots;
+//! [`Heap::by_marks`] and [`End::next_by_marks`] have the marks before the roots, as in C.
+//!
 //! # What types do not keep
 //!
 //! None of this breaks the safety of memory but by the stack or by another allocator:
 //!
 //! - All roots are handed in, and values of before a collection or a flip are not used behind it.
-//! - [`Heap::by_roots`], [`by_marks`](Heap::by_marks), [`read`](Heap::read), [`End::next_by_roots`] and
-//!   [`next_by_marks`](End::next_by_marks) take up to 140 KiB of the thread's stack, the others less than 16 KiB.
+//! - A call has 16 KiB of the thread's stack.
 //! - No call is made from a signal handler, or in the forked child of a process with threads.
 //! - `malloc`, `realloc` and `free` are of one allocator, which any thread may call.
 //!

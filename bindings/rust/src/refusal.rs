@@ -131,7 +131,7 @@ refusals! {
     29 OTHER_COUNT OtherCount;
     /// The tables have room for so many words, and there are more.
     30 SHORT_TABLES ShortTables { words };
-    /// Not one block of marks for each 64 words, the last ones in part.
+    /// Not one block of marks for each 64 words, the last ones in part; or not as many words as a marking is of.
     31 WRONG_LENGTH WrongLength;
     /// An option without a meaning. No call here is made with such a one.
     32 BAD_OPTIONS BadOptions { options };

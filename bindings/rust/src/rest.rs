@@ -2,9 +2,10 @@
 //! stands still for a collection.
 //!
 //! A [`Space`] has the words. [`Space::collect`] and its kin are whole collections. In steps a [`Survey`] says which
-//! objects are live, and threads slide parts by shares of it; a [`Job`] is its marking by several threads, a
-//! [`Marking`] the same with no copy, and in steps; [`Tables`] are room for one, made before it. By [`Pages`] threads
-//! go on while the heap slides, by [`Looks`] while it is marked.
+//! objects are live, slides them, and forwards tables; a [`Job`] is its marking by several threads, a
+//! [`Marking`] the same with no copy, and in steps; [`Growing`] takes roots by and by, and says what is kept so far;
+//! [`Tables`] are room for one, made before it. By [`Pages`] threads go on while the heap slides, by [`Looks`] while it
+//! is marked.
 //!
 //! What the runtime keeps:
 //!
@@ -22,6 +23,7 @@
 
 mod buffer;
 mod collections;
+mod growing;
 mod job;
 mod lane;
 mod looks;
@@ -33,6 +35,7 @@ mod tables;
 mod turning;
 
 pub use buffer::{Buffer, CHUNK};
+pub use growing::Growing;
 pub use job::{Help, Job};
 pub use lane::Lane;
 pub use looks::Looks;

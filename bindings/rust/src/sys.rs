@@ -24,7 +24,7 @@ macro_rules! handles {
     };
 }
 
-handles! { Heap Plan Crew Mutator End Survey Tables Job Marking Looks Lane Pages }
+handles! { Heap Plan Crew Mutator End Survey Tables Growing Job Marking Looks Lane Pages }
 
 /// What each call answers: `status` 0 and the value, or the numbers of a refusal.
 #[repr(C)]
@@ -109,6 +109,22 @@ unsafe extern "C" {
         root_count: usize, survey: &mut Survey) -> Answer;
     pub safe fn compressor_survey_return(survey: &mut Survey, tables: &mut Tables) -> Answer;
     pub safe fn compressor_tables_drop(tables: &mut Tables);
+
+    pub fn compressor_growing_begin(
+        edition: u32, words: *const u64, word_count: usize, growing: &mut Growing) -> Answer;
+    pub fn compressor_growing_begin_lent(
+        tables: &mut Tables, edition: u32, words: *const u64, word_count: usize,
+        growing: &mut Growing) -> Answer;
+    pub fn compressor_growing_also(
+        growing: &mut Growing, words: *const u64, word_count: usize, roots: *const u64,
+        root_count: usize) -> Answer;
+    pub fn compressor_growing_also_values(
+        growing: &mut Growing, words: *const u64, word_count: usize, ephemerons: *const u64,
+        ephemeron_words: usize) -> Answer;
+    pub safe fn compressor_growing_keeps(growing: &mut Growing, value: u64) -> Answer;
+    pub safe fn compressor_growing_settle(growing: &mut Growing, survey: &mut Survey) -> Answer;
+    pub safe fn compressor_growing_return(growing: &mut Growing, tables: &mut Tables) -> Answer;
+    pub safe fn compressor_growing_drop(growing: &mut Growing);
 
     pub fn compressor_job_begin(
         edition: u32, words: *const u64, word_count: usize, roots: *const u64, root_count: usize,

@@ -91,6 +91,15 @@ impl Value {
         }
     }
 
+    /// The sum of two fixnums, as a heap of edition four has them. `None` if it does not fit, or if one of them is no
+    /// fixnum.
+    pub const fn fixnum_add(self, other: Value) -> Option<Value> {
+        match (self.as_fixnum(), other.as_fixnum()) {
+            (Some(a), Some(b)) => Value::fixnum(a + b), // numbers of 60 bits: no overflow
+            _ => None,
+        }
+    }
+
     /// A value of a finished cycle as it is once that came to rest ([`End::rest`](crate::End::rest)).
     pub const fn rested(self) -> Value {
         if self.is_reference() {

@@ -58,4 +58,5 @@ fn words_are_audited_and_explained() {
     assert_eq!(wrong, Err(Refusal::WrongWord { address: TO_SPACE + 2 }));
     let said = plan.explain(&slid(8), words).unwrap().expect("a fault");
     assert!(said.starts_with("page 0 offset 2 has 8, not 7"), "{said}");
+    assert!(!said.ends_with('\n'), "{said}");
 }

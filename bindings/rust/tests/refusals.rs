@@ -60,6 +60,20 @@ fn surveys_of_no_heap() {
 }
 
 #[test]
+fn marks_behind_the_words() {
+    let words = [header(1, 1), 0, 3];
+    for index in [3, 5, 63] {
+        let marked = Survey::by_marks(ONE, &words, &[], &[1 << index]);
+        assert_eq!(marked.err(), Some(Refusal::ObjectPastEnd { index }));
+    }
+    let by_bits = |heads, live| Survey::by_bits(Edition::Three, 3, &[], &[heads], &[live]).err();
+    assert_eq!(by_bits(1, 7), None);
+    assert_eq!(by_bits(1, 7 | 1 << 3), Some(Refusal::ObjectPastEnd { index: 3 }));
+    assert_eq!(by_bits(1, 7 | 1 << 5), Some(Refusal::NotARun { index: 5 }));
+    assert_eq!(by_bits(1 | 1 << 5, 7), Some(Refusal::NotARun { index: 5 }));
+}
+
+#[test]
 fn flips_and_plans() {
     let mut plan = heap().plan().unwrap();
     assert_eq!(plan.flip(0, 0).unwrap_err(), Refusal::BadMutators { count: 0 });

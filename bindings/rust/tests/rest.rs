@@ -4,7 +4,9 @@ use std::array;
 use std::sync::{Mutex, RwLock};
 use std::thread;
 
-use compressor::rest::{Buffer, Help, Job, Looks, Marking, Pages, Space, Survey, Tables, CHUNK};
+use compressor::rest::{
+    Buffer, Growing, Help, Job, Looks, Marking, Pages, Space, Survey, Tables, CHUNK,
+};
 use compressor::{Edition, Refusal, Shape, Value};
 
 const THREADS: usize = 4;
@@ -129,6 +131,28 @@ fn a_weak_word_goes_with_its_object() {
     assert_eq!(space.shape(table), Shape { refs: 0, weak: 3, data: 0, tag: 7 });
     assert_eq!(space.object_around(4), Some(table));
     assert_eq!(space.object_around(7), None);
+}
+
+#[test]
+fn an_object_becomes_another_one_of_as_many_words() {
+    let mut space = space();
+    let mut buffer = Buffer::default();
+    let leaf = pair(&space, &mut buffer, number(1), Value::NULL);
+    let lost = pair(&space, &mut buffer, number(2), Value::NULL);
+    let object = pair(&space, &mut buffer, leaf, lost);
+    assert_eq!(space.header(object), header(2, 0));
+    let half = Shape { refs: 1, weak: 0, data: 1, tag: 9 };
+    space.set_header(object, half.header(Edition::Four).unwrap());
+    assert_eq!(space.shape(object), half);
+    let mut roots = [object];
+    assert_eq!(space.collect(&mut roots), Ok(6)); // the data word keeps nothing
+    assert_eq!(space.load(roots[0], 0), Value::at(0));
+    assert_eq!(space.load_word(roots[0], 1), lost.word());
+    // One reference; the third word is an object too, which nothing reaches.
+    space.store_word(roots[0], 1, 0);
+    space.set_header(roots[0], header(1, 0));
+    assert_eq!(space.collect(&mut roots), Ok(5));
+    assert_eq!(space.header(roots[0]), header(1, 0));
 }
 
 #[test]
@@ -420,6 +444,52 @@ fn what_is_lost_is_told_and_lives() {
     assert_eq!((survey.live_words(), lost, guarded), (9, 1, [at(3), at(0)]));
     let found = Survey::guarded(Edition::Four, &words, &[at(0)], &of, &mut [at(0), at(12)]);
     assert_eq!(found.unwrap_err(), Refusal::BadRoot { number: 5 });
+}
+
+#[test]
+fn a_survey_grows() {
+    let pair = header(2, 0);
+    let at = Value::at;
+    // Four pairs; the first one leads to the second one.
+    let mut words = [0; 12];
+    for (i, word) in words.iter_mut().enumerate() {
+        *word = if i % 3 == 0 { pair } else { 0 };
+    }
+    words[1] = at(3).word();
+    let one = Growing::begin(Edition::Four, &words).unwrap();
+    let mut one = one.also(&[at(0)]).unwrap();
+    assert_eq!(
+        (one.kept(), one.keeps(at(3)), one.keeps(at(6)), one.keeps(at(1))),
+        (2, true, false, false)
+    );
+    assert!(one.keeps(Value::NULL) && one.keeps(Value::fixnum(7).unwrap()));
+    // The key of the first value is kept by the second one.
+    let of = [[at(0), at(9), at(9)], [at(0), at(6), at(9)], [at(3), at(3), at(6)]];
+    let one = one.also_values(&of[..1]).unwrap();
+    assert_eq!(one.kept(), 2);
+    let one = one.also_values(&of).unwrap();
+    assert_eq!(one.kept(), 4);
+    let mut survey = one.settle().unwrap();
+    assert_eq!(survey.live_words(), 12);
+    assert!(survey.into_tables().unwrap().is_none());
+
+    let tables = Tables::reserve(11).unwrap();
+    let short = Growing::begin_lent(tables, Edition::Four, &words).unwrap_err();
+    assert_eq!(short.refusal, Refusal::ShortTables { words: 11 });
+    let tables = Tables::reserve(12).unwrap();
+    let one = Growing::begin_lent(tables, Edition::Four, &words).unwrap();
+    let refused = one.also(&[at(0), at(12)]).unwrap_err();
+    assert_eq!(refused.refusal, Refusal::BadRoot { number: 1 });
+    let tables = refused.back.expect("the tables come back");
+    let one = Growing::begin_lent(tables, Edition::Four, &words).unwrap();
+    let refused = one.also(&[at(9)]).unwrap().also_values(&[[at(9), at(9), at(12)]]).unwrap_err();
+    assert_eq!(refused.refusal, Refusal::BadRoot { number: 2 });
+    let tables = refused.back.expect("the tables come back");
+    let one = Growing::begin_lent(tables, Edition::Four, &words).unwrap();
+    assert!(one.into_tables().is_some());
+    let one = Growing::begin(Edition::Four, &words).unwrap();
+    assert!(one.also(&[at(12)]).unwrap_err().back.is_none());
+    assert!(Growing::begin(Edition::Four, &words).unwrap().into_tables().is_none());
 }
 
 #[test]

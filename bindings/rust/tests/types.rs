@@ -1,6 +1,6 @@
 //! What types promise; that a handle is not shared or cloned doc tests in src/handle.rs say.
 
-use compressor::rest::{Buffer, Job, Lane, Looks, Marking, Pages, Space, Survey, Tables};
+use compressor::rest::{Buffer, Growing, Job, Lane, Looks, Marking, Pages, Space, Survey, Tables};
 use compressor::{
     Address, Crew, Edition, End, Heap, Mutator, Plan, Refusal, Refused, Shape, Value,
 };
@@ -17,6 +17,7 @@ fn handles_go_to_other_threads() {
     is_sent::<End>();
     is_sent::<Survey>();
     is_sent::<Tables>();
+    is_sent::<Growing<'_>>();
     is_sent::<Job>();
     is_sent::<Marking>();
     is_sent::<Looks>();
@@ -46,6 +47,22 @@ fn small_immediates() {
     assert_eq!(Value::small(8, 0), None);
     assert_eq!(Value::at(7).as_small().or(Value::NULL.as_small()), None);
     assert_eq!(Value::fixnum(-1).unwrap().word(), u64::MAX - 7);
+}
+
+#[test]
+fn fixnums_are_added_where_the_sum_fits() {
+    let (least, most) = (-(1 << 59), (1 << 59) - 1);
+    let fixnum = |number| Value::fixnum(number).unwrap();
+    for a in [least, least + 1, -7, -1, 0, 1, 7, most - 1, most] {
+        for b in [least, -1, 0, 1, most] {
+            assert_eq!(fixnum(a).fixnum_add(fixnum(b)), Value::fixnum(a + b));
+        }
+        for other in [Value::NULL, Value::at(0), Value::small(1, 0).unwrap()] {
+            assert_eq!(fixnum(a).fixnum_add(other), None);
+            assert_eq!(other.fixnum_add(fixnum(a)), None);
+        }
+    }
+    assert_eq!(fixnum(most).fixnum_add(fixnum(1)), None);
 }
 
 #[test]

@@ -86,7 +86,8 @@ impl Plan {
         })
     }
 
-    /// What is wrong with a dump where, in a few lines; `None` if there is no fault.
+    /// What is wrong with a dump where, in a few lines, with no line feed behind the last one; `None` if there is no
+    /// fault.
     ///
     /// # Errors
     /// `OutOfMemory`; `FileTruncated` to `FileBadField`.

@@ -304,13 +304,37 @@ impl<'m> Space<'m> {
         self.word(object, k).store(value.word(), Ordering::Release);
     }
 
+    /// The header word of an object.
+    fn head(&self, object: Value) -> &AtomicU64 {
+        self.cell(object, 0).expect("an object in this space")
+    }
+
+    /// The header word of an object: [`Shape::of`] says its counts and its tag.
+    ///
+    /// # Panics
+    /// If it is not in the memory.
+    #[inline]
+    pub fn header(&self, object: Value) -> u64 {
+        self.head(object).load(Ordering::Relaxed)
+    }
+
+    /// Gives an object this header word: so it has another tag, or becomes another one of as many words. If it says
+    /// fewer, what is left has to be objects too, as zeros are, or [`turn`](Space::turn) and
+    /// [`object_around`](Space::object_around) do not find what lies behind.
+    ///
+    /// # Panics
+    /// If it is not in the memory.
+    #[inline]
+    pub fn set_header(&self, object: Value, header: u64) {
+        self.head(object).store(header, Ordering::Relaxed);
+    }
+
     /// The shape of an object.
     ///
     /// # Panics
     /// If it is not in the memory.
     pub fn shape(&self, object: Value) -> Shape {
-        let header = self.cell(object, 0).expect("an object in this space");
-        Shape::of(self.edition, header.load(Ordering::Relaxed))
+        Shape::of(self.edition, self.header(object))
     }
 
     /// Appends an object's row, for [`Looks`](super::Looks): its header, references and weak words, each as it is at

@@ -60,8 +60,8 @@ impl Survey {
     ///
     /// # Errors
     /// `WrongLength`; `TooLarge`; `OutOfMemory`, or a fault that is there: `BadRoot` or `UnmarkedTarget`, a root or a
-    /// reference of a marked object that leads to no marked object, `ObjectTooLong`, `ObjectPastEnd`, `Overlap`,
-    /// `BadWeak`.
+    /// reference of a marked object that leads to no marked object, `ObjectTooLong`, `ObjectPastEnd`, also of a mark
+    /// behind the words (its index, at which there is no word), `Overlap`, `BadWeak`.
     pub fn by_marks(
         edition: Edition,
         words: &[u64],
@@ -91,7 +91,8 @@ impl Survey {
     ///
     /// # Errors
     /// `BadEdition` for editions one and two; `TooLarge`; `WrongLength`; `OutOfMemory`, or a fault that is there:
-    /// `NotARun`, `ObjectPastEnd`, or `BadRoot`, one that leads to no marked object.
+    /// `NotARun` or `ObjectPastEnd`, either also of a bit behind the words (its index, at which there is no word), or
+    /// `BadRoot`, one that leads to no marked object.
     pub fn by_bits(
         edition: Edition,
         words: u64,
@@ -167,8 +168,8 @@ impl Survey {
     }
 
     /// Fills the part with the live words from number `first` on, as they are after the collection. Parts may be
-    /// filled at the same time, by shares; together they are the collected heap if each of its words is in one of
-    /// them.
+    /// filled at the same time, by shares, which shortened no pause where it was measured, and cost more: fill one.
+    /// Together they are the collected heap if each of its words is in one of them.
     ///
     /// # Errors
     /// `NoSuchPart`, `OtherCount`, and the part is as it was; `Changed`, `Unmarked`, and it has any words. If the
