@@ -32,12 +32,15 @@ struct collector {
     const char *(*end)(void);
     void (*tell)(FILE *to);
     /* heap.h says what these do */
-    void (*make)(evaluator *e, slot to, uint32_t refs, uint32_t data_words, uint32_t kind);
+    void (*make)(evaluator *e, slot to, compressor_shape shape);
     uint32_t (*kind)(evaluator *e, slot object);
     void (*ref)(evaluator *e, slot to, slot object, uint32_t field);
     void (*set_ref)(evaluator *e, slot object, uint32_t field, slot value);
     uint64_t (*word)(evaluator *e, slot object, uint32_t field);
     void (*set_word)(evaluator *e, slot object, uint32_t field, uint64_t value);
+    /* weak words; null if there are no ephemerons */
+    void (*weak)(evaluator *e, slot to, slot object, uint32_t field);
+    void (*set_weak)(evaluator *e, slot object, uint32_t field, slot value);
 };
 
 extern const collector collector_at_rest, collector_flipped;
@@ -58,6 +61,32 @@ struct heap {
     char error[256];
 };
 extern struct heap heap;
+
+/* The header word of a shape, and a new object of it. */
+uint64_t heap_shape_header(compressor_shape shape);
+void heap_make(evaluator *e, slot to, compressor_shape shape);
+
+/* weak_heap.c: ephemerons and guards, for a heap at rest. Called under the lock. */
+/* Are there any? */
+int heap_has_weak(void);
+/* Surveys the words by the roots and what they hold. */
+compressor_answer heap_survey_weak(const uint64_t *words, uint64_t used, compressor_survey *survey);
+/* These are the words after the slide. Guardians get what was lost. */
+void heap_settle_weak(compressor_survey *survey, uint64_t *words);
+void heap_drop_weak(void);
+/* The words that ephemerons and guards hold, before the slide and after it. Answers how many there are; without a
+   survey, how many there may be. */
+size_t heap_weak_roots(compressor_survey *survey, uint64_t *before, uint64_t *after);
+
+/* judge.c: a collection of these words, and what it left, are judged. Null, or what is wrong. `weak` is the survey by
+   ephemerons and guards, or null. */
+#ifdef JUDGED
+const char *heap_judge_before(const uint64_t *words, uint64_t used, compressor_survey *weak);
+const char *heap_judge_after(const uint64_t *words, uint64_t live);
+#else
+#define heap_judge_before(words, used, weak) NULL
+#define heap_judge_after(words, live) NULL
+#endif
 
 /* A call of the library was refused by a fault of the caller's. */
 void heap_broken(const char *call, compressor_answer a) __attribute__((noreturn));

@@ -76,6 +76,10 @@ static int apply(evaluator *e, slot out, slot f, slot first, uint32_t count, slo
         call_primitive(e, out, f, first, count);
         return DONE;
     }
+    if (kind == GUARDIAN) {
+        call_guardian(e, out, f, first, count);
+        return DONE;
+    }
     if (kind != CLOSURE) fail_with(e, "NotAFunction", f);
     names = heap_push(e), name = heap_push(e), body = heap_push(e);
     heap_ref(e, names, f, CLOSURE_NAMES);

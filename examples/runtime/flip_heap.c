@@ -274,15 +274,15 @@ static int settled(evaluator *e, compressor_answer a, const char *call) {
     }
 }
 
-static void make(evaluator *e, slot to, uint32_t refs, uint32_t data_words, uint32_t kind) {
-    const uint64_t header = heap_header(refs, data_words, kind);
+static void make(evaluator *e, slot to, compressor_shape shape) {
+    const uint64_t header = heap_shape_header(shape);
     compressor_answer a;
     do {
         e->began = heap_now();
         a = compressor_mutator_alloc(&e->mutator, header);
     } while (!settled(e, a, "compressor_mutator_alloc"));
     e->stack[to] = a.value;
-    e->allocated += 1 + refs + data_words;
+    e->allocated += compressor_shape_words(shape);
 }
 
 static uint32_t kind_of(evaluator *e, slot object) {
@@ -329,4 +329,4 @@ static void set_word(evaluator *e, slot object, uint32_t field, uint64_t value) 
 }
 
 const collector collector_flipped = {"flip", MOST_WORDS, start, arrive, turn, help, wake, end, tell, make, kind_of,
-                                     ref, set_ref, word, set_word};
+                                     ref, set_ref, word, set_word, NULL, NULL};

@@ -15,6 +15,13 @@
 
 struct heap heap;
 
+/* With -DSTRESSED there is a collection before each new object, and at each poll. */
+#ifdef STRESSED
+enum { IS_STRESSED = 1 };
+#else
+enum { IS_STRESSED = 0 };
+#endif
+
 const collector *heap_collector(const char *name) {
     static const collector *const all[] = {&collector_at_rest, &collector_flipped};
     size_t k;
@@ -131,7 +138,7 @@ void heap_collect(evaluator *e) {
 
 void heap_poll(evaluator *e) {
     /* a stop does not end before this evaluator has stopped, so it is still wanted under the lock */
-    if (__atomic_load_n(&heap.stopping, __ATOMIC_SEQ_CST)) heap_collect(e);
+    if (IS_STRESSED || __atomic_load_n(&heap.stopping, __ATOMIC_SEQ_CST)) heap_collect(e);
 }
 
 void heap_wait(evaluator *e, int (*is_so)(void *with), void *with) {
@@ -202,8 +209,14 @@ uint64_t heap_most_words(void) {
     return heap.options.by->most_words;
 }
 
+void heap_make(evaluator *e, slot to, compressor_shape shape) {
+    if (IS_STRESSED) heap_collect(e);
+    heap.options.by->make(e, to, shape);
+}
+
 void heap_new(evaluator *e, slot to, uint32_t refs, uint32_t data_words, uint32_t kind) {
-    heap.options.by->make(e, to, refs, data_words, kind);
+    const compressor_shape shape = {refs, 0, data_words, kind};
+    heap_make(e, to, shape);
 }
 
 void heap_ref(evaluator *e, slot to, slot object, uint32_t field) {
@@ -224,11 +237,15 @@ void heap_set_word(evaluator *e, slot object, uint32_t field, uint64_t value) {
 
 /* Start and end. */
 
-uint64_t heap_header(uint64_t refs, uint64_t data_words, uint64_t kind) {
-    const compressor_shape shape = {(uint32_t)refs, 0, (uint32_t)data_words, (uint32_t)kind};
+uint64_t heap_shape_header(compressor_shape shape) {
     uint64_t header = 0;
     if (!compressor_shape_header(EDITION, shape, &header)) abort();
     return header;
+}
+
+uint64_t heap_header(uint64_t refs, uint64_t data_words, uint64_t kind) {
+    const compressor_shape shape = {(uint32_t)refs, 0, (uint32_t)data_words, (uint32_t)kind};
+    return heap_shape_header(shape);
 }
 
 uint64_t heap_first_address(uint64_t i) {

@@ -59,7 +59,7 @@ struct heap_options {
 /* The collector of this name, "rest" or "flip", or null. */
 const collector *heap_collector(const char *name);
 
-/* The header of an object, for the words of the first heap. A kind is a number up to 16,383. */
+/* The header of an object without weak words, for the words of the first heap. A kind is a number up to 16,383. */
 uint64_t heap_header(uint64_t refs, uint64_t data_words, uint64_t kind);
 /* The from-space address of word i of the first heap. */
 uint64_t heap_first_address(uint64_t i);
@@ -99,6 +99,26 @@ void heap_ref(evaluator *e, slot to, slot object, uint32_t field);
 void heap_set_ref(evaluator *e, slot object, uint32_t field, slot value);
 uint64_t heap_word(evaluator *e, slot object, uint32_t field);
 void heap_set_word(evaluator *e, slot object, uint32_t field, uint64_t value);
+
+/* Ephemerons and guardians, of a heap at rest alone: with a flipped one each of these that makes something, and
+   heap_wants_weak, which does nothing else, ends the program (NoEphemerons).
+
+   An ephemeron has one reference field, which is the runtime's, a key and a value. The key is not null. The value lives
+   as long as the ephemeron and the key do; both are null after the collection in which the key died, and stay so.
+   heap_ephemeron reads them, heap_set_value changes the value while the key lives. heap_new_ephemeron may collect; `to`
+   is none of the others.
+
+   A guardian is an object of GUARDIAN_FIELDS reference fields, which are the heap's. An object that it guards comes to
+   its list after the first collection before which nothing else held the object, with all that it reaches. heap_next
+   takes the object that came first out: 1, or 0 if there is none. If the guardian dies, its objects die as others do.
+   What is no object is never lost. heap_guard may collect; it makes an object of its own, of the kind `guard`. */
+enum { GUARDIAN_FIRST, GUARDIAN_LAST, GUARDIAN_FIELDS };
+void heap_wants_weak(evaluator *e);
+void heap_new_ephemeron(evaluator *e, slot to, slot key, slot value, uint32_t kind);
+void heap_ephemeron(evaluator *e, slot ephemeron, slot key, slot value);
+void heap_set_value(evaluator *e, slot ephemeron, slot value);
+void heap_guard(evaluator *e, slot guardian, slot object, uint32_t guard);
+int heap_next(evaluator *e, slot to, slot guardian);
 
 /* The safepoint: called often by each evaluator, it stops here while a collection is wanted. */
 void heap_poll(evaluator *e);

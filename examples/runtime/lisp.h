@@ -11,7 +11,10 @@
    CHUNK       up to CHUNK_LENGTH elements
    CLOSURE     parameters, body, scope
    PRIMITIVE                                    its number
-   BINDING     value, name, next binding                                                                          */
+   BINDING     value, name, next binding
+   TABLE       first entry
+   ENTRY       next entry                                                                an ephemeron of the heap's
+   GUARDIAN, GUARD                                                                       the heap's              */
 #ifndef LISP_H
 #define LISP_H
 
@@ -23,11 +26,13 @@ extern "C" {
 
 /* kinds, those of small values first. UNBOUND is the value of a symbol that has none, NIL is said of the empty list,
    WORLD is what all evaluators share */
-enum { INTEGER, BOOLEAN, UNBOUND, NIL, CELL, SYMBOL, VECTOR, CHUNK, CLOSURE, PRIMITIVE, BINDING, WORLD };
+enum { INTEGER, BOOLEAN, UNBOUND, NIL, CELL, SYMBOL, VECTOR, CHUNK, CLOSURE, PRIMITIVE, BINDING, WORLD, TABLE, ENTRY,
+       GUARDIAN, GUARD };
 
 /* reference fields; VALUE is that of a symbol and of a binding */
 enum { CAR = 0, CDR = 1, VALUE = 0, SYMBOL_NEXT = 1, BINDING_NAME = 1, BINDING_NEXT = 2 };
 enum { CLOSURE_NAMES, CLOSURE_BODY, CLOSURE_SCOPE };
+enum { NEXT_ENTRY = 0, TABLE_FIELDS }; /* NEXT_ENTRY is that of a table and of an entry */
 enum { WORLD_SYMBOLS, WORLD_WORK, WORLD_RESULTS, WORLD_FIELDS };
 /* data words */
 enum { NUMBER = 0, LENGTH = 0, SYMBOL_FORM = 0, SYMBOL_LENGTH = 1, SYMBOL_NAME = 2 };
@@ -72,9 +77,22 @@ void evaluate(evaluator *e, slot out, slot form, slot scope);
 /* out becomes the value of f, applied to the count values in the slots from first on. */
 void call(evaluator *e, slot out, slot f, slot first, uint32_t count);
 
-/* primitives.c */
+/* primitives.c: what is called with the arguments in the slots from first on; out may be one of them. */
+typedef struct arguments {
+    slot first;
+    uint32_t count;
+} arguments;
 void define_primitives(evaluator *e);
 void call_primitive(evaluator *e, slot out, slot primitive, slot first, uint32_t count);
+
+/* tables.c: primitives; a guardian is a function of its own */
+void make_table(evaluator *e, slot out, arguments a);
+void table_set(evaluator *e, slot out, arguments a);
+void table_ref(evaluator *e, slot out, arguments a);
+void table_delete(evaluator *e, slot out, arguments a);
+void table_count(evaluator *e, slot out, arguments a);
+void make_guardian(evaluator *e, slot out, arguments a);
+void call_guardian(evaluator *e, slot out, slot guardian, slot first, uint32_t count);
 
 /* parallel.c: evaluators that share work. */
 /* out becomes the vector of (f 0) to (f count-1); all evaluators share these calls out among them. */

@@ -3,12 +3,6 @@
 
 #include <string.h>
 
-/* The arguments are in the slots from first on; out may be one of them. */
-typedef struct arguments {
-    slot first;
-    uint32_t count;
-} arguments;
-
 typedef void primitive(evaluator *e, slot out, arguments a);
 
 static int64_t number(evaluator *e, arguments a, uint32_t i) {
@@ -195,6 +189,8 @@ static const struct {
     {"set-car!", 2, 2, set_car}, {"set-cdr!", 2, 2, set_cdr}, {"list", 0, UINT32_MAX, list},
     {"vector", 0, UINT32_MAX, vector}, {"make-vector", 2, 2, new_vector}, {"vector-length", 1, 1, vector_length},
     {"vector-ref", 2, 2, vector_ref}, {"vector-set!", 3, 3, set_vector},
+    {"make-ephemeron-table", 0, 0, make_table}, {"table-set!", 3, 3, table_set}, {"table-ref", 2, 3, table_ref},
+    {"table-delete!", 2, 2, table_delete}, {"table-count", 1, 1, table_count}, {"make-guardian", 0, 0, make_guardian},
     {"print", 0, UINT32_MAX, print_all}, {"parallel", 2, 2, run_parallel}, {"cycles", 0, 0, cycles},
     {"collect", 0, 0, collect_now}, {"fail", 1, 1, fail},
 };

@@ -74,6 +74,7 @@ static void print(evaluator *e, slot value, text *t, uint32_t nested) {
     case NIL: put_text(t, "()"); return;
     case CELL: print_list(e, value, t, nested + 1); return;
     case VECTOR: print_vector(e, value, t, nested + 1); return;
+    case TABLE: put_text(t, "#table"); return;
     case SYMBOL: put(t, name, symbol_name(e, value, name)); return;
     case BOOLEAN: put_text(t, heap_same(e, value, TRUE_SLOT) ? "#t" : "#f"); return;
     case INTEGER:

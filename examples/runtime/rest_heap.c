@@ -3,8 +3,8 @@
    Of a cycle:
    1. An evaluator whose buffer has no room wants a stop (heap.c).
    2. The last one to arrive makes the one call that collects, within the memory. The tables for it were made at the
-      start, so it allocates nothing. Of a large heap it makes the survey alone; then all slide it into a second memory,
-      each a part, and the two memories change places.
+      start, so it allocates nothing. Of a large heap, and of one with ephemerons or guardians (weak_heap.c), it makes
+      the survey alone; then all slide it into a second memory, each a part, and the two memories change places.
    3. It deals each evaluator a new buffer, of zeroed words behind the live ones. What lies behind all buffers is for
       objects of more than MOST_WORDS words, each of which has words of its own.
 
@@ -21,7 +21,7 @@ static struct {
     compressor_space space;
     compressor_tables tables;
     uint64_t *words;
-    uint64_t *second; /* memory; null if there is one evaluator */
+    uint64_t *second; /* memory; null until one is wanted, if there is one evaluator */
     uint64_t left;    /* words behind all buffers, after the last collection */
     /* of a turn that all make: parts of the live words and of the roots, by a survey and its shares */
     compressor_survey surveys[MOST_EVALUATORS];
@@ -103,31 +103,53 @@ static int help(void) {
     return 1;
 }
 
-/* Answers 0, and does nothing, if there is no memory for the survey, some 200 bytes. Without memory for a share there
-   are fewer parts. Whoever is free does the next part: nobody waits for one who has not begun. */
-static int collect_by_all(void) {
+/* Slides so many words, by the survey and its shares. Without memory for a share there are fewer parts. Whoever is free
+   does the next part: nobody waits for one who has not begun. */
+static void slide_by_all(uint64_t live) {
     uint64_t *old = rest.words;
-    compressor_answer a = compressor_survey_by_roots_lent(&rest.tables, EDITION, rest.words, rest.space.used,
-                                                          heap.roots, heap.root_count, &rest.surveys[0]);
     uint32_t parts = 1, k;
-    if (a.status == COMPRESSOR_OUT_OF_MEMORY) return 0;
-    if (a.status != COMPRESSOR_DONE) heap_broken("compressor_survey_by_roots_lent", a);
     while (parts < heap.options.evaluators &&
            compressor_survey_share(&rest.surveys[0], &rest.surveys[parts]).status == COMPRESSOR_DONE)
         parts++;
-    rest.live = a.value;
+    rest.live = live;
     rest.begun = rest.done = 0;
     rest.parts = parts;
     pthread_cond_broadcast(&heap.changed);
     while (help()) continue;
     while (rest.done < parts) pthread_cond_wait(&heap.changed, &heap.lock);
     for (k = 1; k < parts; k++) compressor_survey_drop(&rest.surveys[k]);
-    a = compressor_survey_return(&rest.surveys[0], &rest.tables);
-    if (a.status != COMPRESSOR_DONE) heap_broken("compressor_survey_return", a);
     rest.words = rest.second;
     rest.second = old;
+}
+
+/* Answers 0, and does nothing, if there is no memory for the survey, some 200 bytes. */
+static int collect_by_all(void) {
+    compressor_answer a = compressor_survey_by_roots_lent(&rest.tables, EDITION, rest.words, rest.space.used,
+                                                          heap.roots, heap.root_count, &rest.surveys[0]);
+    if (a.status == COMPRESSOR_OUT_OF_MEMORY) return 0;
+    if (a.status != COMPRESSOR_DONE) heap_broken("compressor_survey_by_roots_lent", a);
+    slide_by_all(a.value);
+    a = compressor_survey_return(&rest.surveys[0], &rest.tables);
+    if (a.status != COMPRESSOR_DONE) heap_broken("compressor_survey_return", a);
     rest.turns_of_all++;
     return 1;
+}
+
+/* With ephemerons or guards the survey takes memory of its own, and its slide the second memory. */
+static const char *collect_weak(void) {
+    const char *fault;
+    compressor_answer a;
+    if (!rest.second) rest.second = (uint64_t *)calloc(all_words(), sizeof *rest.second);
+    if (!rest.second) return "OutOfMemory";
+    a = heap_survey_weak(rest.words, rest.space.used, &rest.surveys[0]);
+    if (a.status == COMPRESSOR_OUT_OF_MEMORY) return "OutOfMemory";
+    if (a.status != COMPRESSOR_DONE) heap_broken("compressor_survey_guarded", a);
+    fault = heap_judge_before(rest.words, rest.space.used, &rest.surveys[0]);
+    slide_by_all(a.value);
+    if (!fault) fault = heap_judge_after(rest.words, rest.live);
+    heap_settle_weak(&rest.surveys[0], rest.words);
+    compressor_survey_drop(&rest.surveys[0]);
+    return fault;
 }
 
 static void collect_in_place(void) {
@@ -137,11 +159,17 @@ static void collect_in_place(void) {
     rest.live = a.value;
 }
 
+static const char *collect(void) {
+    const char *fault = heap_judge_before(rest.words, rest.space.used, NULL);
+    if (fault) return fault;
+    if (heap.options.evaluators == 1 || heap.live <= LARGE || !collect_by_all()) collect_in_place();
+    return heap_judge_after(rest.words, rest.live);
+}
+
 static const char *turn(void) {
     const uint64_t since = heap_now();
-    const char *fault;
-    if (!rest.second || heap.live <= LARGE || !collect_by_all()) collect_in_place();
-    fault = deal(rest.live);
+    const char *fault = heap_has_weak() ? collect_weak() : collect();
+    if (!fault) fault = deal(rest.live);
     heap_time(&collection, since);
     return fault;
 }
@@ -149,6 +177,7 @@ static const char *turn(void) {
 static void wake(void) {}
 
 static const char *end(void) {
+    heap_drop_weak();
     compressor_tables_drop(&rest.tables);
     free(rest.words);
     free(rest.second);
@@ -173,8 +202,8 @@ static uint64_t make_large(evaluator *e, uint64_t header, uint64_t words) {
     return made;
 }
 
-static void make(evaluator *e, slot to, uint32_t refs, uint32_t data_words, uint32_t kind) {
-    const uint64_t header = heap_header(refs, data_words, kind), words = (uint64_t)1 + refs + data_words;
+static void make(evaluator *e, slot to, compressor_shape shape) {
+    const uint64_t header = heap_shape_header(shape), words = compressor_shape_words(shape);
     if (words > MOST_WORDS) {
         e->stack[to] = make_large(e, header, words);
         return;
@@ -196,21 +225,29 @@ static void set_ref(evaluator *e, slot object, uint32_t field, slot value) {
     compressor_store_release(&rest.space, e->stack[object], field, e->stack[value]);
 }
 
-/* Where data word `field` of an object is, counted behind its header. */
-static uint64_t data_place(uint64_t object, uint32_t field) {
+/* Where weak word or data word `field` of an object is, counted behind its header: no object has both. */
+static uint64_t place_of(uint64_t object, uint32_t field) {
     return (uint64_t)compressor_shape_at(&rest.space, object).refs + field;
 }
 
 static uint64_t word(evaluator *e, slot object, uint32_t field) {
     const uint64_t at = e->stack[object];
-    return compressor_load_acquire(&rest.space, at, data_place(at, field));
+    return compressor_load_acquire(&rest.space, at, place_of(at, field));
 }
 
 static void set_word(evaluator *e, slot object, uint32_t field, uint64_t value) {
     const uint64_t at = e->stack[object];
-    compressor_store_release(&rest.space, at, data_place(at, field), value);
+    compressor_store_release(&rest.space, at, place_of(at, field), value);
+}
+
+static void weak(evaluator *e, slot to, slot object, uint32_t field) {
+    e->stack[to] = word(e, object, field);
+}
+
+static void set_weak(evaluator *e, slot object, uint32_t field, slot value) {
+    set_word(e, object, field, e->stack[value]);
 }
 
 /* An edition's most words of an object: whether there is so much room is another question. */
 const collector collector_at_rest = {"rest", (uint64_t)1 << 31, start, arrive, turn, help, wake, end, tell, make,
-                                     kind_of, ref, set_ref, word, set_word};
+                                     kind_of, ref, set_ref, word, set_word, weak, set_weak};
