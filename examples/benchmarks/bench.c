@@ -1,5 +1,6 @@
 /* bench.c: runs one program over the heap of one back end: `bench PROGRAM SIZE`. Prints a line of JSON: times in
-   milliseconds, memory in MB, words, and the check sum, which is that of each other back end. */
+   milliseconds, memory in MB, words, the check sum, which is that of each other back end, and of each pause when it
+   began and how long it was. */
 #define _GNU_SOURCE
 #include "heap.h"
 
@@ -79,14 +80,17 @@ int main(int argc, char **argv) {
     if (argc != 3) die("usage: bench PROGRAM SIZE");
     const program *const p = named(argv[1]);
     const int size = atoi(argv[2]);
-    const uint64_t began = wall_time();
+    told.began = wall_time();
     mutators_start(p->threads, BUDGET * p->live((uint64_t)size));
-    const uint64_t sum = run_all(p, size), wall = wall_time() - began, processor = processor_time();
+    const uint64_t sum = run_all(p, size), wall = wall_time() - told.began, processor = processor_time();
     const double count = told.count != 0 ? (double)told.count : 1;
     printf("{\"processor\": %.3f, \"wall\": %.3f, \"collections\": %llu, \"collection\": %.4f, \"pause\": %.4f, "
-           "\"longest\": %.4f, \"memory\": %.1f, \"live\": %llu, \"sum\": \"%llu\"}\n",
+           "\"longest\": %.4f, \"memory\": %.1f, \"live\": %llu, \"sum\": \"%llu\", \"pauses\": [",
            ms(processor), ms(wall), (unsigned long long)told.count, ms(told.processor) / count,
            ms(told.pauses) / count, ms(told.longest_pause), (double)peak_memory() / 1024,
            (unsigned long long)told.most_live, (unsigned long long)sum);
+    for (uint64_t k = 0; k < told.count && k < MOST_PAUSES; k++)
+        printf("%s[%.3f, %.4f]", k != 0 ? ", " : "", ms(told.each[k].began), ms(told.each[k].length));
+    printf("]}\n");
     return 0;
 }

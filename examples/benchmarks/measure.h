@@ -16,16 +16,27 @@ static inline uint64_t wall_time(void) { return read_clock(CLOCK_MONOTONIC); }
 /* Of all threads of the process. */
 static inline uint64_t processor_time(void) { return read_clock(CLOCK_PROCESS_CPUTIME_ID); }
 
+/* Of so many collections it is told when they were. */
+enum { MOST_PAUSES = 1 << 14 };
+
 /* The collections so far. One thread at a time tells of one. */
 static struct {
+    uint64_t began;         /* the run, by the wall */
     uint64_t count;
     uint64_t processor;     /* of all of them, by all threads */
     uint64_t pauses;        /* by the wall, from the wish for a collection to its end */
     uint64_t longest_pause;
     uint64_t most_live;     /* words, the most that were left by one */
+    struct {
+        uint64_t began, length; /* from the beginning of the run on */
+    } each[MOST_PAUSES];
 } told;
 
 static inline void tell_collection(uint64_t processor, uint64_t pause, uint64_t live_words) {
+    if (told.count < MOST_PAUSES) {
+        told.each[told.count].began = wall_time() - pause - told.began;
+        told.each[told.count].length = pause;
+    }
     told.count++;
     told.processor += processor;
     told.pauses += pause;

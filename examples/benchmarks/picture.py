@@ -15,6 +15,8 @@ COLOURS = {it: colour for _, colour, members in GROUPS for it in members}
 WIDTH, MARGIN, GAP = 800, 14, 26  # of the picture, around it, between panels
 TOP, ROW, NAMES, NUMBERS = 24, 16, 70, 46  # of a panel: its title, a row, columns left and right of the scale
 LEAST, MOST = 1.25, 3.0  # between these a scale of ratios ends
+WAYS = ("rest", "touch-inline", "flipped", "mark-slide", "boehm")  # whose pauses are drawn over time
+PLOT = 70  # the height of their bars at most
 
 
 def text(x, y, words, more=""):
@@ -45,8 +47,8 @@ def legend(back_ends, y):
     return shapes
 
 
-def page(results, title, heads, back_ends, panels, columns, below):
-    """The picture: these panels, each drawn for a width, side by side, with so much below the rows of each."""
+def page(results, title, heads, back_ends, panels, columns, height):
+    """The picture: these panels, each drawn for a width, side by side, each of that height."""
     if results.unproved:
         heads.append("The library is NOT PROVED: these times are not its own.")
     if results.quick:
@@ -59,7 +61,6 @@ def page(results, title, heads, back_ends, panels, columns, below):
     y += 22
     columns = max(1, min(columns, len(panels)))
     width = (WIDTH - 2 * MARGIN - (columns - 1) * GAP) / columns
-    height = TOP + ROW * len(back_ends) + below
     for k, draw in enumerate(panels):
         x = MARGIN + k % columns * (width + GAP)
         shapes += [f'<g transform="translate({x:.1f} {y + k // columns * height})">', *draw(width), "</g>"]
@@ -113,7 +114,8 @@ def times(results):
     name = "Boehm's libgc" if base == "boehm" else base
     title = f"Processor time over that of {name}: shorter is faster"
     head = f"The line is {name}, at 1. A broken bar is longer than drawn. The collectors have the same heap budget."
-    return page(results, title, [head], results.back_ends, drawn, 2 if len(drawn) == 4 else 3, 20)
+    height = TOP + ROW * len(results.back_ends) + 20
+    return page(results, title, [head], results.back_ends, drawn, 2 if len(drawn) == 4 else 3, height)
 
 
 def scale(low, high, full):
@@ -171,4 +173,49 @@ def pauses(results):
     head = "The dot is the mean, the end of its line the longest. The scale is logarithmic."
     head = head if panels else "There is no program in which all collect."
     drawn = [functools.partial(dots, title, pauses, low, high) for title, pauses in panels.items()]
-    return page(results, title, [head], names, drawn, 2, 32)
+    return page(results, title, [head], names, drawn, 2, TOP + ROW * len(names) + 32)
+
+
+def bar_chart(it, told, low, high, width):
+    """A panel of the pauses of one run, each where it was: as wide as it was long, and up to its length."""
+    full, wall, lengths = width - NAMES, told["wall"], [length for _, length in told["pauses"]]
+    count, total, longest = len(lengths), sum(lengths), max(lengths)
+    low, high, ticks = scale(low, high, full)
+    bottom = TOP + PLOT
+
+    def place(x):
+        return bottom - PLOT * math.log(max(x, low) / low) / math.log(high / low)
+
+    said = f"{count} pauses in {number(wall)} ms: {number(total)} together, the longest {number(longest)}"
+    shapes = [text(0, 14, it, 'font-weight="bold" font-size="13"')]
+    shapes.append(text(width, 14, said, 'text-anchor="end" font-size="11" fill="#555"'))
+    for tick in (x for x in ticks if math.log10(x) % 1 == 0):
+        shapes.append(line(NAMES, place(tick), width, place(tick), 'stroke="#ddd"'))
+        shapes.append(text(NAMES - 6, place(tick) + 4, f"{tick:g}", 'text-anchor="end" font-size="10" fill="#555"'))
+    for began, length in told["pauses"]:
+        x, y, long = NAMES + full * began / wall, min(place(length), bottom - 2), max(full * length / wall, 1)
+        size = f'width="{long:.1f}" height="{bottom - y:.1f}"'
+        shapes.append(f'<rect x="{x:.1f}" y="{y:.1f}" {size} fill="{COLOURS[it]}"/>')
+    step = next(lead * 10.0**k for k in range(-3, 7) for lead in (1, 2, 5) if wall / (lead * 10.0**k) <= 10)
+    for tick in (k * step for k in range(int(wall / step) + 1)):
+        x = NAMES + full * tick / wall
+        shapes.append(text(x, bottom + 12, f"{tick:g}", 'text-anchor="middle" font-size="10" fill="#555"'))
+    return [*shapes, line(NAMES, bottom, width, bottom, 'stroke="#222"')]
+
+
+def over_time(results):
+    """Each pause of a program, in a panel for each of the WAYS: of the first program in which all of them collect."""
+
+    def runs_of(program):
+        rows = {it: results.rows[program, it][0] for it in WAYS if (program, it) in results.rows}
+        return rows if rows and all(row.get("pauses") for row in rows.values()) else {}
+
+    program = next((it for it in results.programs if runs_of(it)), None)
+    runs = runs_of(program)
+    lengths = [length for told in runs.values() for _, length in told["pauses"]]
+    low, high = min(lengths, default=1), max(lengths, default=1)
+    title = f"Each pause of {program} in milliseconds, over the time of its run" if runs else "Pauses over time"
+    head = "A bar is a pause: as wide as it is long, and as high, on a logarithmic scale. All runs are equally wide."
+    head = head if runs else "There is no program in which all collect, or it was not told when."
+    drawn = [functools.partial(bar_chart, it, told, low, high) for it, told in runs.items()]
+    return page(results, title, [head], list(runs), drawn, 1, TOP + PLOT + 26)

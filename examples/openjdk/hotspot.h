@@ -144,9 +144,30 @@ static void find_regions(void *heap)
     }
 }
 
+/* The same of Shenandoah. In a pause that no concurrent collection began before, no object has a second copy. */
+static void find_shenandoah(void *heap)
+{
+    const char *region = "ShenandoahHeapRegion";
+    void **regions = AT(void **, heap, offset_of("ShenandoahHeap", "_regions"));
+    uint64_t length = AT(uint64_t, heap, offset_of("ShenandoahHeap", "_num_regions"));
+    int32_t humongous = tag_of(region, "_humongous_start"), pinned = tag_of(region, "_pinned_humongous_start");
+    for (unsigned i = 0; i < length; i++) {
+        void *r = regions[i];
+        if (AT(uint64_t, r, offset_of(region, "_bottom")) == AT(uint64_t, r, offset_of(region, "_top")))
+            continue;
+        int32_t state = AT(int32_t, r, offset_of(region, "_state"));
+        if (state == humongous || state == pinned)
+            die("not provided for:", "a humongous object");
+        char name[16];
+        snprintf(name, sizeof name, "region%u", i);
+        add_space(name, r, region, region);
+    }
+}
+
 static void find_spaces(void)
 {
     void *heap = *(void **)static_at("Universe", "_collectedHeap");
+    uint64_t *shenandoah = static_at("ShenandoahHeapRegion", "RegionSizeBytes");
     void **parallel = static_at("ParallelScavengeHeap", "_old_gen");
     void **g1 = static_at("HeapRegion", "GrainBytes");
     if (!g1)
@@ -154,6 +175,8 @@ static void find_spaces(void)
     space_count = 0;
     if (g1 && *g1) {
         find_regions(heap);
+    } else if (shenandoah && *shenandoah) {
+        find_shenandoah(heap);
     } else if (parallel && *parallel) {
         void *young = *(void **)static_at("ParallelScavengeHeap", "_young_gen");
         const char *space = "MutableSpace";

@@ -31,18 +31,25 @@ NARROW = "-Xms96m -Xmx96m -Xmn8m -XX:SurvivorRatio=2 -XX:MaxTenuringThreshold=2 
 FOUR = "-XX:ParallelGCThreads=4 -XX:-UseDynamicNumberOfGCThreads "
 DEAD_WOOD = "-XX:MarkSweepAlwaysCompactCount=1000 -XX:MarkSweepDeadRatio=20"
 TRIES = 20
+# All in a pause. A degenerated collection copies all regions with garbage, if its reserve has room for what lives.
+# So no dead object is left among the live ones.
+SHENANDOAH = ("-Xms48m -Xmx48m -XX:+UnlockExperimentalVMOptions -XX:+UnlockDiagnosticVMOptions -XX:+UseShenandoahGC "
+              "-XX:ShenandoahGCMode=passive -XX:-ExplicitGCInvokesConcurrent -XX:ShenandoahRegionSize=1m ")
+COPY_ALL = "-XX:ShenandoahEvacReserve=60 -XX:ShenandoahGarbageThreshold=0 "
 G1 = "-XX:+UseG1GC -XX:G1HeapRegionSize=1m -XX:InitiatingHeapOccupancyPercent=100 -XX:MarkSweepDeadRatio=0 "
 
 # The flags, and whether the collection slides live objects. One whose name ends in `young` copies young ones, and the
-# old ones stay.
+# old ones stay; it comes when there is no room, as that of Shenandoah which is degenerated.
 COLLECTIONS = {
     "serial": (WIDE + "-XX:+UseSerialGC -XX:MarkSweepAlwaysCompactCount=1", True),
     "serial-dead-wood": (WIDE + "-XX:+UseSerialGC " + DEAD_WOOD, False),
     "parallel": (WIDE + "-XX:+UseParallelGC " + FOUR, True),
     "g1": (WIDE + G1 + "-XX:ParallelGCThreads=1", True),
+    "shenandoah": (SHENANDOAH + "-XX:ParallelGCThreads=1", True),
     "serial-young": (NARROW + "-XX:+UseSerialGC", False),
     "parallel-young": (NARROW + "-XX:+UseParallelGC " + FOUR, False),
     "g1-young": (NARROW + G1 + FOUR, False),
+    "shenandoah-degenerated": (SHENANDOAH + COPY_ALL + FOUR, False),
 }
 
 
@@ -63,7 +70,7 @@ def version(jdk):
 def collect(jdk, room, name, shape, a):
     """Runs Zoo.java. Its agent writes before.raw and after.raw into the room. On a busy machine one worker of four may
     copy all before another one wakes up; then the run is made again."""
-    kind = "young" if name.endswith("young") else "full"
+    kind = "young" if name.endswith(("young", "degenerated")) else "full"
     flags = COLLECTIONS[name][0].split() + COMMON.split() + ["-Xlog:gc*,gc+phases*=trace:file=%s/gc.log" % room]
     java = [jdk + "/bin/java", "-agentpath:%s/agent.so" % room, "-cp", room, *flags]
     count = a.objects or (60000 if kind == "young" else 20000)
