@@ -285,7 +285,7 @@ fault-valued edition words marks more between ephemerons from fault reached is =
     (λ i there. reached-rooted edition words (roots_on marks more) ephemerons i (reached.reached i there)) is)
 
 -- no roots reach nothing
-none-reached : (edition : Edition) (words : List ℕ) (i : ℕ) → IsReachedFrom edition words [] i → ⊥
+pub none-reached : (edition : Edition) (words : List ℕ) (i : ℕ) → IsReachedFrom edition words [] i → ⊥
 none-reached edition words i (by_root _ leads_there) =
     absurd (let no : false ≡ true = has-contained [] (from_address i) leads_there.address in cc)
 none-reached edition words j (by_reference i _ reached leads_there) = none-reached edition words i reached

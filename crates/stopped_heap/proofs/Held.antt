@@ -234,10 +234,3 @@ pub held-then : (edition : Edition) (words first mid new ephemerons : List ℕ) 
     → (i : ℕ) → bit new i ≡ true → IsHeld edition words (marks_of first) ephemerons (from_address i)
 held-then edition words first mid new ephemerons before after i set =
     held-through edition words (marks_of mid) (marks_of first) ephemerons (λ j there. before j (set-of mid j there)) (from_address i) (after i set)
-
--- and so is a fault that it meets
-pub fault-then : (edition : Edition) (words first mid ephemerons : List ℕ) (fault : SurveyFault)
-    → ((i : ℕ) → bit mid i ≡ true → IsHeld edition words (marks_of first) ephemerons (from_address i)) → IsHeldFaultOf edition words (marks_of mid) ephemerons fault
-    → IsHeldFaultOf edition words (marks_of first) ephemerons fault
-fault-then edition words first mid ephemerons fault before =
-    fault-through edition words (marks_of mid) (marks_of first) ephemerons fault (λ j there. before j (set-of mid j there))

@@ -59,3 +59,4 @@ mod FoundIn
 mod SeenHeld
 pub mod Waiting
 mod Listing
+mod Stepping

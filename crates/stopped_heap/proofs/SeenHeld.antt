@@ -2,13 +2,16 @@
 use Rattle.std.proofs.Common.{◌≡◌, ℕ, zero, suc, ◌<◌, true, List, [], ◌∷◌, Contains, length, sym, subst, arith}
 use Rattle.std.proofs.lemmas.Bool.{both_ways}
 use Rattle.heap_layout.specs.declared.edition.Edition.{Edition}
+use Rattle.heap_layout.specs.Bits.{bit}
 use Rattle.heap_layout.specs.Heap.{from_address}
 use Rattle.stopped_heap.specs.Ephemerons.{IsHeld, IsHeldFaultOf}
 use Rattle.stopped_heap.specs.Growing.{roots_on, AreReady, IsGrownIn, IsSeenFaultOf}
 use Rattle.stopped_heap.specs.Growth.{IsSeenHeldFaultOf}
 use Rattle.stopped_heap.specs.Reached.{is_within, IsReachedFrom}
+use Rattle.stopped_heap.specs.Surveys.{marks_of}
 use Rattle.stopped_heap.specs.declared.fault.SurveyFault.{SurveyFault}
 use Rattle.stopped_heap.specs.declared.fault.SurveyFault.TheVariants.{TooLarge, BadRoot, BadReference, BadWeak, ObjectTooLong, ObjectPastEnd, Overlap, OutOfMemory}
+use Rattle.stopped_heap.proofs.Grown.{set-of}
 use Rattle.stopped_heap.proofs.Held.{fault-held, fault-through, held-through}
 use Rattle.stopped_heap.proofs.Seen.{grown-ready}
 
@@ -47,6 +50,13 @@ seen-fault-through edition words seen marks others ephemerons (ObjectTooLong i) 
 seen-fault-through edition words seen marks others ephemerons (ObjectPastEnd i) each is = (held-through edition seen marks others ephemerons each (from_address i) is.0, is.1)
 seen-fault-through edition words seen marks others ephemerons (Overlap i) each is = fault-through edition seen marks others ephemerons (Overlap i) each is
 seen-fault-through edition words seen marks others ephemerons OutOfMemory each is = is
+
+-- and of what an earlier step marked
+pub seen-fault-then : (edition : Edition) (words seen first mid ephemerons : List ℕ) (fault : SurveyFault)
+    → ((i : ℕ) → bit mid i ≡ true → IsHeld edition seen (marks_of first) ephemerons (from_address i)) → IsSeenHeldFaultOf edition words seen (marks_of mid) ephemerons fault
+    → IsSeenHeldFaultOf edition words seen (marks_of first) ephemerons fault
+seen-fault-then edition words seen first mid ephemerons fault before =
+    seen-fault-through edition words seen (marks_of mid) (marks_of first) ephemerons fault (λ i there. before i (set-of mid i there))
 
 -- where the words are those that were seen, it is one of them
 pub held-fault-seen : (edition : Edition) (words marks ephemerons : List ℕ) (fault : SurveyFault) → IsSeenHeldFaultOf edition words words marks ephemerons fault

@@ -15,6 +15,7 @@ pub mod LiveBits
 pub mod Growing
 pub mod Growth
 pub mod NotGrowth
+pub mod Steps
 pub mod Ephemerons
 pub mod Given
 pub mod Looks

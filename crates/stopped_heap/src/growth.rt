@@ -6,9 +6,9 @@ ghost use Rattle.stopped_heap.specs.Places.{IsFoundOf};
 ghost use Rattle.stopped_heap.specs.Reached.{IsFaultOf};
 ghost use Rattle.stopped_heap.specs.Tables.{IsLentFaultOf};
 
+use crate::ephemerons::keep_values;
 use crate::fault::SurveyFault;
 use crate::growing::{Growing, NotGrown, grow_in};
-use crate::holding::keep_values_in;
 use crate::marks::leads_to;
 use crate::offsets::put_offsets;
 use crate::places::Places;
@@ -197,12 +197,20 @@ impl Growth {
             room,
             mut heads,
             mut bits,
-            counts,
-            starts,
+            mut counts,
+            mut starts,
             mut queue,
         } = self;
-        let kept = keep_values_in(
-            edition, words, ephemerons, &mut heads, &mut bits, &mut queue,
+        let kept = keep_values(
+            edition,
+            words,
+            ephemerons,
+            room > 0,
+            &mut heads,
+            &mut bits,
+            &mut counts,
+            &mut starts,
+            &mut queue,
         );
         if let Err(fault) = kept {
             let tables = Tables {

@@ -1,16 +1,18 @@
 //! Laws of collections. Each is the contract of a function that does nothing.
-ghost use Rattle.std.specs.Prelude.{◌≡◌, ◌+◌, ◌≤◌, ℕ, List, Contains, length, sum};
+ghost use Rattle.std.specs.Prelude.{◌≡◌, ◌+◌, ◌≤◌, ℕ, List, [], Contains, length, sum};
 ghost use Rattle.heap_layout.specs.declared.edition.Edition.{Edition};
 ghost use Rattle.heap_layout.specs.Faults.{IsAccepted};
 ghost use Rattle.heap_layout.specs.Heap.{Heap, live};
 ghost use Rattle.page_plan.specs.Sliding.{live_words};
 ghost use Rattle.reachability.specs.Reachable.{AreReachable};
 ghost use Rattle.stopped_heap.specs.Collecting.{HasCollected, RefusesCollection};
+ghost use Rattle.stopped_heap.specs.Growth.{IsFoundIn};
 ghost use Rattle.stopped_heap.specs.InPlace.{HaveLeftTheSame};
 ghost use Rattle.stopped_heap.specs.Reached.{AreReached, IsReachedFrom, IsSound, IsFaultOf};
 ghost use Rattle.stopped_heap.specs.SlideParts.{joined_parts};
 ghost use Rattle.stopped_heap.specs.Places.{led_by, words_now, Found, IsFoundOf, IsSlideFault};
 ghost use Rattle.stopped_heap.specs.Settled.{collected, settled_word, settled_words, AreSlid};
+ghost use Rattle.stopped_heap.specs.Steps.{growth_roots, found_at_last, kept_at_last, roots_of_all, AreFoundAlike, AreGrowthSteps, AreSteps, GrowthStep, Step};
 ghost use Rattle.stopped_heap.specs.declared.fault.CollectFault.{CollectFault};
 ghost use Rattle.stopped_heap.specs.declared.fault.CollectFault.TheVariants as collection;
 ghost use Rattle.stopped_heap.specs.declared.fault.SlideFault.{SlideFault};
@@ -96,4 +98,20 @@ pub fn led_is_settled()
 pub fn found_has_no_fault()
     ensures { (found : Found) (heap : Heap) (first count : ℕ) (fault : SlideFault) → IsFoundOf found heap → first + count ≤ length found.indices
         → IsSlideFault found heap.words first count fault → ⊥ }
+{}
+
+/// A survey that grows by some lists of roots, one after the other, keeps at last what all these roots reach together,
+/// however many lists they are: what one survey of all these roots marks. So it does not matter how they are handed in,
+/// and `settle` changes nothing of it. Of a `Growth` this is so if the words stay the same. It is then found alike by one
+/// survey of all these roots, and each call of `Places` answers the same.
+pub fn steps_are_one()
+    ensures growing { (edition : Edition) (words : List ℕ) (steps : List Step) → AreSteps edition words [] steps
+        → AreReached edition words (roots_of_all steps) (kept_at_last [] steps) }
+    ensures one { (edition : Edition) (words : List ℕ) (steps : List Step) (marks : List ℕ) → AreSteps edition words [] steps
+        → AreReached edition words (roots_of_all steps) marks → kept_at_last [] steps ≡ marks }
+    ensures growth { (words : List ℕ) (begun : Found) (steps : List GrowthStep) → begun.marks ≡ [] → IsFoundIn begun words → AreGrowthSteps words begun steps
+        → AreReached begun.edition words (growth_roots steps) (found_at_last begun steps).marks }
+    ensures alike { (words : List ℕ) (begun : Found) (steps : List GrowthStep) (at_once : Found) → begun.marks ≡ [] → IsFoundIn begun words → AreGrowthSteps words begun steps
+        → IsFoundIn at_once words → at_once.edition ≡ begun.edition → AreReached begun.edition words (growth_roots steps) at_once.marks
+        → AreFoundAlike (found_at_last begun steps) at_once }
 {}

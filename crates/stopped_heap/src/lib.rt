@@ -37,7 +37,6 @@ mod given;
 mod growing;
 mod growth;
 mod guarding;
-mod holding;
 mod in_place;
 mod kept;
 mod lane;
@@ -90,7 +89,7 @@ pub use lane::Lane;
 pub use laws::{
     accepted_is_sound, collected_is_accepted, collected_is_one, collected_is_reached,
     collected_is_slid, found_has_no_fault, led_is_settled, parts_are_whole, reached_is_marked,
-    reached_is_one, sound_has_no_fault, words_now_are_settled,
+    reached_is_one, sound_has_no_fault, steps_are_one, words_now_are_settled,
 };
 pub use looks::{Looks, clean_is_same, same_is_looked};
 pub use places::Places;

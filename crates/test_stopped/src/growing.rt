@@ -127,9 +127,9 @@ fn ephemerons_are_asked_again(rt: HostRuntime) {
     assert_eq!(&rt; growing.settle().live_words(), 10);
 }
 
-// Pairs for a row of objects of one word: the keys are that at 1 and those behind it, so many, and each value is the next
-// key. The last pair stands first, so that a round of all of them finds one value. The object at 0 is the holder.
-fn chain(alloc: Global, count: u32) -> Result<Vec<u64>, AllocError> {
+/// Pairs for a row of objects of one word: the keys are that at 1 and those behind it, so many, and each value is the
+/// next key. The last pair stands first, so that a round of all of them finds one value. The object at 0 is the holder.
+pub(crate) fn chain(alloc: Global, count: u32) -> Result<Vec<u64>, AllocError> {
     let mut pairs = Vec::new(alloc);
     for k in 0..count {
         let key = F + u64::from(count - k);
@@ -138,8 +138,8 @@ fn chain(alloc: Global, count: u32) -> Result<Vec<u64>, AllocError> {
     Ok(pairs)
 }
 
-// So many objects of one word.
-fn row(alloc: Global, count: usize) -> Result<Vec<u64>, AllocError>
+/// So many objects of one word.
+pub(crate) fn row(alloc: Global, count: usize) -> Result<Vec<u64>, AllocError>
     ensures { IfOk result (λ words. length words.items ≡ count) }
 {
     vec![in alloc; Header::new_weak(0, 0, 0, 1).word(); count]

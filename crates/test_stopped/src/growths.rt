@@ -1,4 +1,5 @@
 //! Surveys that grow while their words are written to.
+use crate::growing::{chain, row};
 use crate::small_heaps::five;
 use heap_layout::{Edition, FROM_SPACE as F};
 use std::process::Abort;
@@ -78,6 +79,55 @@ fn values_are_kept_in_words_that_were_written_to(rt: HostRuntime) {
         (4, true, false)
     );
     assert_eq!(&rt; growth.settle().live_words(), 10);
+}
+
+// By rounds alone, each of which keeps one value, this takes minutes.
+#[test]
+fn a_long_chain_of_keys_is_kept_in_the_worst_order(rt: HostRuntime) {
+    let Ok(pairs) = chain(rt.alloc(), 20_000) else {
+        return;
+    };
+    let Ok(words) = row(rt.alloc(), 20_002) else {
+        return;
+    };
+    let growth = Growth::begin(rt.alloc(), Edition::Two, &words);
+    let growth = growth.expect(&rt, "a beginning");
+    let Ok(growth) = growth.also(&words, &[F, F + 1]) else {
+        return;
+    };
+    let Ok(growth) = growth.also_values(&words, &pairs) else {
+        return;
+    };
+    assert_eq!(&rt; growth.keeps(F + 20_001), true);
+    assert_eq!(&rt; growth.settle().live_words(), 20_002);
+}
+
+// Lent tables for so many words have room for an index, or have none; then there are rounds alone.
+#[test]
+fn a_chain_of_keys_is_kept_in_lent_tables(rt: HostRuntime) {
+    let Ok(pairs) = chain(rt.alloc(), 200) else {
+        return;
+    };
+    let Ok(words) = row(rt.alloc(), 20_000) else {
+        return;
+    };
+    for objects in [202_usize, 20_000] {
+        let words = &words[..objects];
+        let Ok(tables) = Tables::reserve(rt.alloc(), objects) else {
+            return;
+        };
+        let Ok(growth) = Growth::begin_lent(tables, Edition::Two, words) else {
+            return;
+        };
+        let Ok(growth) = growth.also(words, &[F, F + 2]) else {
+            return;
+        };
+        let Ok(growth) = growth.also_values(words, &pairs) else {
+            return;
+        };
+        assert_eq!(&rt; growth.keeps(F + 1), false);
+        assert_eq!(&rt; growth.kept(), 201);
+    }
 }
 
 #[test]

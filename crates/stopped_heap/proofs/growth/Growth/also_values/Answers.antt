@@ -11,8 +11,8 @@ use Rattle.stopped_heap.proofs.Grown.{set-of}
 use Rattle.stopped_heap.proofs.Held.{are-held}
 use Rattle.stopped_heap.proofs.growth.Growth.also_values.Goals as goal
 
-pub keep_values_in-kept-requires : goal.keep_values_in-kept-requires
-keep_values_in-kept-requires c =
+pub keep_values-kept-requires : goal.keep_values-kept-requires
+keep_values-kept-requires c =
     let inside = c.self.inside in
     let words = c.args.words.now in
     let long : length words ≡ inside.count = omega (arith, c.if-self-words.false) in
@@ -51,14 +51,14 @@ pub invariant_of-result : goal.invariant_of-result
 invariant_of-result c =
     let inside = c.self.inside in
     let words = c.args.words.now in
-    let heads = c.keep_values_in-kept.new.heads in
-    let bits = c.keep_values_in-kept.new.bits in
-    let queue = c.keep_values_in-kept.new.queue.items in
+    let heads = c.keep_values-kept.new.heads in
+    let bits = c.keep_values-kept.new.bits in
+    let queue = c.keep_values-kept.new.queue.items in
     let long : length words ≡ inside.count = omega (arith, c.if-self-words.false) in
-    let heads_len : length heads ≡ inside.heads.len = grind (arith, common_steps, c.keep_values_in-kept.ensures.same, c.deref_mut.ensures.len) in
-    let bits_len : length bits ≡ inside.bits.len = grind (arith, common_steps, c.keep_values_in-kept.ensures.long, c.deref_mut-2.ensures.len) in
-    let heads_long : length heads ≡ length inside.heads.items = c.keep_values_in-kept.ensures.same ∙ ap length c.deref_mut.ensures.value in
-    let bits_long : length bits ≡ length inside.bits.items = c.keep_values_in-kept.ensures.long ∙ ap length c.deref_mut-2.ensures.value in
+    let heads_len : length heads ≡ inside.heads.len = grind (arith, common_steps, c.keep_values-kept.ensures.same, c.deref_mut.ensures.len) in
+    let bits_len : length bits ≡ inside.bits.len = grind (arith, common_steps, c.keep_values-kept.ensures.long, c.deref_mut-2.ensures.len) in
+    let heads_long : length heads ≡ length inside.heads.items = c.keep_values-kept.ensures.same ∙ ap length c.deref_mut.ensures.value in
+    let bits_long : length bits ≡ length inside.bits.items = c.keep_values-kept.ensures.long ∙ ap length c.deref_mut-2.ensures.value in
     let grown : (seen : List ℕ) → IsGrownIn inside.edition words seen inside.queue.items inside.heads.items inside.bits.items
     → IsGrownIn inside.edition words seen queue heads bits =
     subst (λ (hs : List ℕ). (seen : List ℕ) → IsGrownIn inside.edition words seen inside.queue.items hs inside.bits.items
@@ -70,12 +70,12 @@ invariant_of-result c =
       record {
         for_heads = c.self.invariant.1.for_heads;
         for_bits = c.self.invariant.1.for_bits;
-        for_counts = c.self.invariant.1.for_counts;
-        for_queue = omega (arith, c.self.invariant.1.for_queue, c.keep_values_in-kept.ensures.capacity);
+        for_counts = omega (arith, c.self.invariant.1.for_counts, c.keep_values-kept.ensures.counts);
+        for_queue = omega (arith, c.self.invariant.1.for_queue, c.keep_values-kept.ensures.capacity);
       },
-      omega (arith, bits_long, c.self.invariant.2),
-      omega (arith, heads_long, c.self.invariant.3),
-      c.self.invariant.4,
+      omega (arith, bits_long, c.self.invariant.2, c.keep_values-kept.ensures.counts),
+      omega (arith, heads_long, c.self.invariant.3, c.keep_values-kept.ensures.starts),
+      omega (arith, c.self.invariant.4, c.keep_values-kept.ensures.starts),
     )
 
 pub returns-clause-held : goal.returns-clause-held
@@ -83,12 +83,12 @@ returns-clause-held c =
     let inside = c.self.inside in
     let words = c.args.words.now in
     let more = c.args.ephemerons.now in
-    let heads = c.keep_values_in-kept.new.heads in
-    let bits = c.keep_values_in-kept.new.bits in
-    let queue = c.keep_values_in-kept.new.queue.items in
+    let heads = c.keep_values-kept.new.heads in
+    let bits = c.keep_values-kept.new.bits in
+    let queue = c.keep_values-kept.new.queue.items in
     let long : length words ≡ inside.count = omega (arith, c.if-self-words.false) in
-    let heads_len : length heads ≡ inside.heads.len = grind (arith, common_steps, c.keep_values_in-kept.ensures.same, c.deref_mut.ensures.len) in
-    let bits_len : length bits ≡ inside.bits.len = grind (arith, common_steps, c.keep_values_in-kept.ensures.long, c.deref_mut-2.ensures.len) in
+    let heads_len : length heads ≡ inside.heads.len = grind (arith, common_steps, c.keep_values-kept.ensures.same, c.deref_mut.ensures.len) in
+    let bits_len : length bits ≡ inside.bits.len = grind (arith, common_steps, c.keep_values-kept.ensures.long, c.deref_mut-2.ensures.len) in
     let grown : (seen : List ℕ) → IsGrownIn inside.edition words seen inside.queue.items inside.heads.items inside.bits.items
     → IsGrownIn inside.edition words seen queue heads bits =
     subst (λ (hs : List ℕ). (seen : List ℕ) → IsGrownIn inside.edition words seen inside.queue.items hs inside.bits.items
