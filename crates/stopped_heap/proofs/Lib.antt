@@ -4,6 +4,7 @@ pub mod Taking
 pub mod Taken
 pub mod Reaching
 pub mod Queued
+pub mod Copied
 pub mod Once
 pub mod Bounding
 pub mod Scanning

@@ -3,6 +3,7 @@ pub mod Settled
 pub mod Surveys
 pub mod Collecting
 pub mod Meeting
+pub mod Following
 pub mod Marks
 pub mod Looking
 pub mod SlideParts

@@ -31,6 +31,7 @@ mod ephemerons;
 mod fault;
 mod finalizing;
 mod finding;
+mod following;
 mod forwarding;
 mod found;
 mod given;

@@ -11,6 +11,7 @@ ghost use Rattle.stopped_heap.specs.declared.fault.SurveyFault.TheVariants as su
 
 use crate::bits::take_run;
 use crate::fault::SurveyFault;
+use crate::following::{Ahead, WIDE};
 use crate::meeting::{Stop, check_leads, meet_all};
 use crate::shape::shape_of;
 use heap_layout::Edition;
@@ -235,6 +236,8 @@ fn mark_by(
 {
     let count = words.len();
     let mut next = queue.len();
+    let mut ahead = Ahead::none(next);
+    let mut headers = [0u64; WIDE];
     match meet_all(edition, count, heads, queue, roots) {
         Ok(()) => {}
         Err(Stop::Memory) => return Err(SurveyFault::OutOfMemory),
@@ -242,13 +245,7 @@ fn mark_by(
     }
     while next < queue.len() {
         let i = queue[next] as usize;
-        if next + AHEAD < queue.len() {
-            let ahead = queue[next + AHEAD] as usize;
-            if !ends_within(edition, words, i, ahead) {
-                return Err(SurveyFault::ObjectPastEnd(ahead as u64));
-            }
-        }
-        let shape = shape_of(edition, words[i]);
+        let shape = ahead.shape(edition, words, queue, &mut headers, next, i);
         if shape.size > edition.max_object_words() {
             return Err(SurveyFault::ObjectTooLong(i as u64));
         }

@@ -1,4 +1,4 @@
-use Rattle.std.proofs.Common.{◌≡◌, ℕ, ◌+◌, ◌<◌, false, fold, length, get_or, refl, sym, ap, subst, ◌∙◌, arith}
+use Rattle.std.proofs.Common.{◌≡◌, ℕ, ◌+◌, ◌<◌, ◌≤◌, List, false, fold, length, get_or, refl, sym, ap, subst, ◌∙◌, arith}
 use Rattle.std.proofs.lemmas.Grind.{common_steps}
 use Rattle.std.proofs.lemmas.List.{get_or_default}
 use Rattle.std.proofs.lemmas.Map.Steps.{length-le_from_distinct_below}
@@ -9,9 +9,11 @@ use Rattle.mark_tables.proofs.Runs.{IsRunSet}
 use Rattle.reachability.specs.Queue.{after_word}
 use Rattle.reachability.proofs.Queues.{has-at}
 use Rattle.stopped_heap.specs.Reached.{is_below, IsWordOf}
+use Rattle.stopped_heap.specs.Following.{IsAhead}
 use Rattle.stopped_heap.specs.Growing.{IsSeenFaultOf}
 use Rattle.stopped_heap.specs.Meeting.{AllLead}
 use Rattle.stopped_heap.specs.declared.fault.SurveyFault.TheVariants.{BadReference, BadWeak, Overlap}
+use Rattle.stopped_heap.proofs.Copied.{all-stay, ahead-none, ahead-on}
 use Rattle.stopped_heap.proofs.Reaching.{references_of}
 use Rattle.stopped_heap.proofs.Seen.{IsSeenTo, run-stays, seen-first, seen-next, seen-reference, seen-weak, seen-overlap, seen-onward}
 use Rattle.stopped_heap.proofs.marking.mark_by.Goals as goal
@@ -20,6 +22,8 @@ pub loop-next-init : goal.loop-next-init
 loop-next-init c =
     let before = c.args.queue.now.items in
     let last : c.len-next.result ≡ length before = grind (arith, common_steps, c.len-next.ensures) in
+    let longer : length before ≤ length c.meet_all.new.queue.items =
+    subst (λ (xs : List ℕ). length before ≤ length xs) (sym c.in-Ok.ensures.queue) (all-stay (is_below (length c.args.words.now)) before c.args.roots.now) in
     record {
       seen = λ seen is.
           subst (λ (n : ℕ). IsSeenTo c.args.edition seen before c.args.roots.now c.meet_all.new.queue.items n c.meet_all.new.met c.args.bits.now) (sym last)
@@ -31,24 +35,10 @@ loop-next-init c =
       stay = λ j set. set;
       long = c.meet_all.ensures.length;
       room = c.meet_all.ensures.capacity;
+      ahead = ahead-none c.args.words.now c.meet_all.new.queue.items _ c.none-ahead.result (c.none-ahead.ensures.from ∙ sym c.none-ahead.ensures.to)
+          (omega (arith, c.none-ahead.ensures.to, last, longer));
+      order = omega (arith, c.none-ahead.ensures.from);
     }
-
-pub bounds-words-i : goal.bounds-words-i
-bounds-words-i c =
-    let queue = c.loop-next.queue.items in
-    let next = c.loop-next.next in
-    let within : next < length queue = omega arith in
-    let here : get_or queue next 0 ≡ c.index.result.now = get_or_default queue next 0 c.index.result.now within ∙ sym c.index.ensures in
-    subst (λ (n : ℕ). n < length c.args.words.now) here (c.loop-next.invariant.once.within (get_or queue next 0) (has-at queue next within))
-
-pub ends_within-requires : goal.ends_within-requires
-ends_within-requires c =
-    let queue = c.loop-next.queue.items in
-    let next = c.loop-next.next in
-    let ahead = c.index-then-next-len.result.now in
-    let within : next + 8 < length queue = omega arith in
-    let here : get_or queue (next + 8) 0 ≡ ahead = get_or_default queue (next + 8) 0 ahead within ∙ sym c.index-then-next-len.ensures in
-    subst (λ (n : ℕ). n < length c.args.words.now) here (c.loop-next.invariant.once.within (get_or queue (next + 8) 0) (has-at queue (next + 8) within))
 
 pub overflow_sub-count : goal.overflow_sub-count
 overflow_sub-count c =
@@ -74,7 +64,7 @@ returns-then-not-take_run-clause-fault c = λ seen is.
     let i = c.index.result.now in
     let within : l.next < length l.queue.items = omega arith in
     let here : get_or l.queue.items l.next 0 ≡ i = get_or_default l.queue.items l.next 0 i within ∙ sym c.index.ensures in
-    let size : c.shape_of-shape.result.size ≡ size_of (header_at e words i) = c.shape_of-shape.ensures.size in
+    let size : c.shape-shape.result.size ≡ size_of (header_at e words i) = c.shape-shape.ensures.size in
     let at = c.if-not-take_run.ensures.taken refl in
     let of : IsWordOf e words i at.0 = (at.1, omega (arith, at.2, size)) in
     subst (λ (n : ℕ). IsSeenFaultOf e words seen before roots (Overlap n)) here
@@ -91,7 +81,7 @@ returns-in-Err-Stray-meet_all-clause-fault c = λ seen is.
     let i = c.index.result.now in
     let within : l.next < length l.queue.items = omega arith in
     let here : i ≡ get_or l.queue.items l.next 0 = c.index.ensures ∙ get_or_default l.queue.items l.next i 0 within in
-    let size : c.shape_of-shape.result.size ≡ size_of (header_at e words i) = c.shape_of-shape.ensures.size in
+    let size : c.shape-shape.result.size ≡ size_of (header_at e words i) = c.shape-shape.ensures.size in
     let free_at : (j : ℕ) → IsWordOf e words i j → bit l.bits j ≡ false = λ j of. c.if-not-take_run.ensures.free refl j of.0 (omega (arith, of.1, size)) in
     let placed_at : IsPlaced e words i = record {
       within = omega (arith, size, c.if-shape-count.false, c.if-shape-max_object_words.false);
@@ -113,10 +103,10 @@ returns-in-Err-clause-fault c = λ seen is.
     let before = c.args.queue.now.items in
     let l = c.loop-next in
     let i = c.index.result.now in
-    let refs = c.shape_of-shape.result.refs in
+    let refs = c.shape-shape.result.refs in
     let within : l.next < length l.queue.items = omega arith in
     let here : i ≡ get_or l.queue.items l.next 0 = c.index.ensures ∙ get_or_default l.queue.items l.next i 0 within in
-    let size : c.shape_of-shape.result.size ≡ size_of (header_at e words i) = c.shape_of-shape.ensures.size in
+    let size : c.shape-shape.result.size ≡ size_of (header_at e words i) = c.shape-shape.ensures.size in
     let free_at : (j : ℕ) → IsWordOf e words i j → bit l.bits j ≡ false = λ j of. c.if-not-take_run.ensures.free refl j of.0 (omega (arith, of.1, size)) in
     let placed_at : IsPlaced e words i = record {
       within = omega (arith, size, c.if-shape-count.false, c.if-shape-max_object_words.false);
@@ -127,7 +117,7 @@ returns-in-Err-clause-fault c = λ seen is.
     (subst (IsPlaced e words) here placed_at)
     (subst (λ (n : ℕ). (j : ℕ) → IsWordOf e words n j → bit l.bits j ≡ false) here free_at)
     c.weak_words-weak.result.now refs c.in-Err.k c.requires.sizes.1
-    (c.shape_of-shape.ensures.refs ∙ ap (λ (n : ℕ). refs_of (header_at e words n)) here)
+    (c.shape-shape.ensures.refs ∙ ap (λ (n : ℕ). refs_of (header_at e words n)) here)
     (c.weak_words-weak.ensures ∙ ap (λ (n : ℕ). (object_at e words n).weak) here)
     c.in-Err.ensures.inside c.in-Err.ensures.stray)
 
@@ -144,8 +134,8 @@ loop-next-preserved c =
     let within : l.next < length old = omega arith in
     let here : i ≡ get_or old l.next 0 = c.index.ensures ∙ get_or_default old l.next i 0 within in
     let from = c.in-Ok-meet_all.ensures.queue ∙ ap (fold (after_word row) old) (c.references-references.ensures ∙ ap (references_of e words) here) in
-    let size : c.shape_of-shape.result.size ≡ size_of (header_at e words i) = c.shape_of-shape.ensures.size in
-    let run_of : IsRunSet i c.shape_of-shape.result.size l.bits c.take_run.new.bits = record {
+    let size : c.shape-shape.result.size ≡ size_of (header_at e words i) = c.shape-shape.ensures.size in
+    let run_of : IsRunSet i c.shape-shape.result.size l.bits c.take_run.new.bits = record {
       long = c.if-not-take_run.ensures.length;
       below = c.if-not-take_run.ensures.below refl;
       inside = c.if-not-take_run.ensures.inside refl;
@@ -174,9 +164,13 @@ loop-next-preserved c =
       met = c.in-Ok-meet_all.ensures.met;
       once = c.in-Ok-meet_all.ensures.once;
       same = same_now;
-      stay = λ j set. run-stays i c.shape_of-shape.result.size l.bits c.take_run.new.bits run_of j (l.invariant.stay j set);
+      stay = λ j set. run-stays i c.shape-shape.result.size l.bits c.take_run.new.bits run_of j (l.invariant.stay j set);
       long = c.meet_all-in-loop-next.ensures.length ∙ l.invariant.long;
       room = omega (arith, c.meet_all-in-loop-next.ensures.capacity, l.invariant.room);
+      ahead = ahead-on row words old c.references-references.result.now c.meet_all-in-loop-next.new.queue.items c.shape-shape.new.headers c.shape-shape.new.self
+          (subst (λ (xs : List ℕ). IsAhead words xs c.shape-shape.new.headers c.shape-shape.new.self) c.deref.ensures.value c.shape-shape.ensures.ahead)
+          c.in-Ok-meet_all.ensures.queue;
+      order = omega (arith, c.shape-shape.ensures.order);
     }
 
 pub returns-clause-onward : goal.returns-clause-onward

@@ -1,5 +1,6 @@
 use Rattle.std.proofs.Common.{◌≡◌, ℕ, List, true, length, ◌-◌, ◌≤◌, vec_capacity}
 use Rattle.heap_layout.specs.Bits.{bit}
+use Rattle.stopped_heap.specs.Following.{IsAhead}
 use Rattle.stopped_heap.specs.Growing.{IsBegunIn}
 use Rattle.stopped_heap.specs.Meeting.{AreMet, AreOnce}
 use Rattle.stopped_heap.proofs.Seen.{IsSeenTo}
@@ -15,6 +16,8 @@ invariant-loop-next l = record {
   stay : (j : ℕ) → bit l.fn.bits j ≡ true → bit l.bits j ≡ true;
   long : length l.heads ≡ length l.fn.heads;
   room : vec_capacity l.fn.queue ≤ vec_capacity l.queue;
+  ahead : IsAhead l.words l.queue.items l.headers l.ahead;
+  order : l.ahead.from ≤ l.next;
 }
 
 abbrev pub decreases-loop-next : goal.decreases-loop-next
