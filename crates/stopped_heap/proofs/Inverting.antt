@@ -68,6 +68,16 @@ unset-there bits b small others_small some =
     let none : bit_at block t ≡ 0 = omega (arith, bit_at_not w64 block t small within, lowest.1, bit_at-lt block t) in
     zero-bit bits b (64 * b + t) at (subst (λ (n : ℕ). bit_at block n ≡ 0) low none)
 
+-- and all bits of it below the first such one are
+pub set-below : (bits : List ℕ) (b : ℕ) → get_or bits b 0 < 2 ^ 64 → bit_not w64 (get_or bits b 0) < 2 ^ 64 → 0 < bit_not w64 (get_or bits b 0)
+    → (j : ℕ) → 64 * b ≤ j → j < 64 * b + trailing_zeros w64 (bit_not w64 (get_or bits b 0)) → bit bits j ≡ true
+set-below bits b small others_small some j low high =
+    let block = get_or bits b 0 in
+    let lowest = bit_at-trailing_zeros w64 (bit_not w64 block) some others_small in
+    let here : j / 64 ≡ b = omega (arith, low, high, lowest.0) in
+    let zero_bit = lowest.2 (j % 64) (omega (arith, low, high, lowest.0)) in
+    one-bit bits b j here (omega (arith, bit_at_not w64 block (j % 64) small (omega arith), zero_bit, bit_at-lt block (j % 64)))
+
 -- a block without one
 pub all-set : (bits : List ℕ) (b : ℕ) → get_or bits b 0 < 2 ^ 64 → bit_not w64 (get_or bits b 0) ≡ 0 → (j : ℕ) → 64 * b ≤ j → j < 64 * (b + 1) → bit bits j ≡ true
 all-set bits b small none j low high =

@@ -26,6 +26,7 @@ pub mod Viewed
 pub mod Joined
 pub mod Whole
 pub mod Moving
+pub mod Dense
 pub mod SlidingDown
 pub mod InPlace
 pub mod Led

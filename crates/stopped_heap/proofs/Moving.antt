@@ -1,5 +1,5 @@
 -- Words that move down within one memory, from low to high.
-use Rattle.std.proofs.Common.{◌≡◌, ℕ, ◌+◌, ◌<◌, ◌≤◌, List, length, get_or, set, inl, inr, refl, ap, ◌∙◌, arith, get_or-set_same, get_or-set_other}
+use Rattle.std.proofs.Common.{◌≡◌, ℕ, ◌+◌, ◌<◌, ◌≤◌, List, length, get_or, set, inl, inr, refl, sym, ap, ◌∙◌, arith, get_or-set_same, get_or-set_other}
 use Rattle.std.proofs.lemmas.Bool.{cases_eq}
 use Rattle.std.proofs.lemmas.List.{length-set}
 
@@ -36,4 +36,21 @@ moved-next f old from to k words value is down room settled = record {
   ];
   before = λ j lt. get_or-set_other words (to + k) j value 0 (λ same. omega (arith, same, lt)) ∙ is.before j lt;
   behind = λ j le. get_or-set_other words (to + k) j value 0 (λ same. omega (arith, same, le)) ∙ is.behind j (omega (arith, le));
+}
+
+-- one word more that stays where it is, since it is already what f makes of it
+pub moved-stays : (f : ℕ → ℕ) (old : List ℕ) (from k : ℕ) (words : List ℕ) → IsMoved f old from from k words → f (get_or words (from + k) 0) ≡ get_or words (from + k) 0
+    → IsMoved f old from from (k + 1) words
+moved-stays f old from k words is stays = record {
+  long = is.long;
+  moved = λ j lt. elim (cases_eq j k) [
+    | inl same ↦
+        ap (λ (n : ℕ). get_or words (from + n) 0) same
+        ∙ sym stays
+        ∙ ap f (is.behind (from + k) (omega arith))
+        ∙ ap (λ (n : ℕ). f (get_or old (from + n) 0)) (sym same)
+    | inr other ↦ is.moved j (omega (arith, lt, other))
+  ];
+  before = is.before;
+  behind = λ j le. is.behind j (omega (arith, le));
 }

@@ -1,5 +1,5 @@
 -- The words, as far as the live objects are slid down.
-use Rattle.std.proofs.Common.{◌≡◌, ℕ, ◌+◌, ◌-◌, ◌*◌, ◌^◌, ◌<◌, ◌≤◌, true, false, List, ◌++◌, length, get_or, drop, inl, inr, refl, sym, ap, subst, ◌∙◌, arith, length-append, length-drop}
+use Rattle.std.proofs.Common.{◌≡◌, ℕ, ◌+◌, ◌-◌, ◌*◌, ◌^◌, ◌<◌, ◌≤◌, true, false, ◌⊎◌, List, ◌++◌, length, get_or, drop, inl, inr, refl, sym, ap, subst, ◌∙◌, arith, length-append, length-drop}
 use Rattle.std.proofs.lemmas.Bool.{cases_lt}
 use Rattle.std.proofs.lemmas.Grind.{same_number_lists}
 use Rattle.std.proofs.lemmas.List.{get_or_append_left, get_or-append_right, get_or-drop}
@@ -7,7 +7,7 @@ use Rattle.std.proofs.lemmas.List.Sums.{sum_by-take-le}
 use Rattle.heap_layout.specs.declared.edition.Edition.{Edition}
 use Rattle.heap_layout.specs.Bits.{bit}
 use Rattle.heap_layout.specs.Header.{header_of, refs_of, weak_of, size_of}
-use Rattle.heap_layout.specs.Heap.{Heap, Object, header_at, object_at, live}
+use Rattle.heap_layout.specs.Heap.{Heap, Object, header_at, object_at, live, IsValue}
 use Rattle.heap_layout.specs.Values.{is_immediate}
 use Rattle.mark_tables.specs.MarkBitmap.{set_bits}
 use Rattle.page_plan.specs.Sliding.{size, live_words}
@@ -21,6 +21,7 @@ use Rattle.stopped_heap.proofs.Filling.{live-placed, live-value}
 use Rattle.stopped_heap.proofs.Heads.{all-words}
 use Rattle.stopped_heap.proofs.Settling.{settled-header, settled-refers, settled-data, settled-all, led-settled, kept-settled, target-known}
 use Rattle.stopped_heap.proofs.Slides.{IsSlid, more-objects, next-start, next-placed, slid-next}
+use Rattle.stopped_heap.proofs.Dense.{value-address}
 
 -- Before index `place` the live objects are slid, as many as have so many words; the others stand at or after index
 -- `next`. From index `place` on the words are as they were.
@@ -37,6 +38,8 @@ pub record IsNext (edition : Edition) (heads bits : List ℕ) (number place : �
   pub within : start + size_of (header_at edition words start) ≤ length words
   pub known : (k : ℕ) → k < refs_of (header_at edition words start) → is_immediate edition (get_or words (start + 1 + k) 0) ≡ false
       → get_or words (start + 1 + k) 0 - 2 ^ 32 < 64 * length bits
+  pub addresses : (k : ℕ) → k < refs_of (header_at edition words start) → is_immediate edition (get_or words (start + 1 + k) 0) ≡ false
+      → (get_or words (start + 1 + k) 0 ≡ 0) ⊎ (2 ^ 32 ≤ get_or words (start + 1 + k) 0)
 
 -- What was made of an object of this shape, which moved from index `start` to index `place`.
 pub record IsDown (edition : Edition) (heads indices : List ℕ) (start place refs weak size : ℕ) (words new : List ℕ) : Type 0 where
@@ -80,18 +83,19 @@ module _ (edition : Edition) (old heads bits counts : List ℕ) (tables : AreTab
         let down : place ≤ start = omega (arith, words-below heap tables.sound is.slid.number known, is.slid.at, at) in
         let same = is.rest start down in
         let inside = bit-inside heads start placed.2 in
+        let value : (k : ℕ) → k < refs_of (header_at edition words start) → IsValue edition (marks_of heads) (get_or words (start + 1 + k) 0) =
+        λ k lower.
+        let few : 1 + k ≤ refs_of (header_at edition old start) = omega (arith, lower, ap (λ (w : ℕ). refs_of (header_of edition w)) same) in
+        let word : get_or words (start + 1 + k) 0 ≡ get_or old (start + (1 + k)) 0 =
+        is.rest (start + 1 + k) (omega (arith, down)) ∙ ap (λ (n : ℕ). get_or old n 0) (let sum : start + 1 + k ≡ start + (1 + k) = omega arith in sum) in
+        subst (IsValue edition (marks_of heads)) (sym word) (live-value edition old heads bits counts tables start placed.2 (1 + k) (omega arith) few) in
         record {
           at = at;
           head = placed.2;
           down = down;
           within = omega (arith, placed.0, is.long, ap (λ (w : ℕ). size_of (header_of edition w)) same);
-          known = λ k lower.
-              let few : 1 + k ≤ refs_of (header_at edition old start) = omega (arith, lower, ap (λ (w : ℕ). refs_of (header_of edition w)) same) in
-              let value = live-value edition old heads bits counts tables start placed.2 (1 + k) (omega arith) few in
-              let word : get_or words (start + 1 + k) 0 ≡ get_or old (start + (1 + k)) 0 =
-              is.rest (start + 1 + k) (omega (arith, down)) ∙ ap (λ (n : ℕ). get_or old n 0) (let sum : start + 1 + k ≡ start + (1 + k) = omega arith in sum) in
-              subst (λ (w : ℕ). is_immediate edition w ≡ false → w - 2 ^ 32 < 64 * length bits) (sym word)
-              (λ plain. target-known edition old heads bits counts tables _ value plain (omega (arith, inside, tables.same)));
+          known = λ k lower plain. target-known edition old heads bits counts tables _ (value k lower) plain (omega (arith, inside, tables.same));
+          addresses = λ k lower plain. value-address edition (marks_of heads) _ (value k lower) plain;
         }
 
     -- word j of the object is what it is after the collection

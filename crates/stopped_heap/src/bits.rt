@@ -82,6 +82,7 @@ pub(crate) fn first_unset(bits: &[u64]) -> Option<usize>
     requires { length bits.now ≤ 2 ^ 25 }
     ensures known { IfSome result (λ j. j < 64 * length bits.now) }
     ensures unset { IfSome result (λ j. bit bits.now j ≡ false) }
+    ensures below { IfSome result (λ j. (i : ℕ) → i < j → bit bits.now i ≡ true) }
     ensures none { IfNone result ((j : ℕ) → j < 64 * length bits.now → bit bits.now j ≡ true) }
 {
     for b in 0..bits.len() {

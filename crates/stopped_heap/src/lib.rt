@@ -65,6 +65,7 @@ mod shape;
 mod sliding;
 mod sliding_down;
 mod starts;
+mod staying;
 mod survey;
 mod survey_by_threads;
 mod tables;

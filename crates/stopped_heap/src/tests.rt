@@ -1,4 +1,5 @@
 //! Small heaps, with the words that a person reads off.
+mod dense_prefix;
 mod in_place;
 mod lent;
 mod places;

@@ -84,6 +84,20 @@ slide_down_object-requires-clause-known c =
     let refs : c.shape_of-shape.result.refs ≡ refs_of (header_at e c.loop-place.words c.next_set-start.result) = c.shape_of-shape.ensures.refs in
     λ k lt. next.known k (omega (arith, lt, refs))
 
+pub slide_down_object-requires-clause-addresses : goal.slide_down_object-requires-clause-addresses
+slide_down_object-requires-clause-addresses c =
+    let e = c.args.edition in
+    let words = c.args.words.now in
+    let heads = c.args.heads.now in
+    let bits = c.args.bits.now in
+    let counts = c.args.counts.now in
+    let found = c.next_set-start.ensures in
+    let all = c.requires.tables.offsets.before (length bits) (omega arith) in
+    let inside : c.loop-place.place < length (set_bits bits) = omega (arith, all, c.loop-place-test.true) in
+    let next = next-down e words heads bits counts c.requires.tables c.loop-place.place c.loop-place.next c.loop-place.words c.loop-place.invariant inside c.next_set-start.result found.from found.none found.here in
+    let refs : c.shape_of-shape.result.refs ≡ refs_of (header_at e c.loop-place.words c.next_set-start.result) = c.shape_of-shape.ensures.refs in
+    λ k lt. next.addresses k (omega (arith, lt, refs))
+
 pub overflow_add-next : goal.overflow_add-next
 overflow_add-next c =
     let e = c.args.edition in
