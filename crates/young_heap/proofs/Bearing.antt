@@ -4,7 +4,6 @@ use Rattle.std.proofs.lemmas.Bool.{cases_lt, le-ltb}
 use Rattle.heap_layout.specs.declared.edition.Edition.{Edition}
 use Rattle.heap_layout.specs.Bits.{bit}
 use Rattle.heap_layout.specs.Values.{is_immediate}
-use Rattle.young_heap.specs.Cards.{AreCleanCards, AreFound, AreGathered}
 use Rattle.stopped_heap.specs.declared.fault.SurveyFault.{SurveyFault}
 use Rattle.stopped_heap.specs.declared.fault.SurveyFault.TheVariants.{TooLarge, BadRoot, BadReference, BadWeak, ObjectTooLong, ObjectPastEnd, Overlap, OutOfMemory}
 use Rattle.young_heap.specs.Refusals.{IsYoungFaultOf}
@@ -33,43 +32,21 @@ module _ (edition : Edition) (words before after : List ℕ) (old : ℕ) (kept :
     row = λ j low. (let at = are.row j low in (at.0, kept at.0 (omega (arith, at.2.0, low)) ∙ at.1, at.2));
   }
 
-  pub remembered-on : (fields : List ℕ) → AreRemembered edition words before old fields → AreRemembered edition words after old fields
-  remembered-on fields are = record {
+  pub remembered-on : (fields weaks : List ℕ) → AreRemembered edition words before old fields weaks → AreRemembered edition words after old fields weaks
+  remembered-on fields weaks are = record {
     clean = λ i f low set from to none. below-same _ ∙ are.clean i f low (was i low set) from to none;
-    weak = λ i f low set from to. below-same _ ∙ are.weak i f low (was i low set) from to;
+    weak = λ i f low set from to none. below-same _ ∙ are.weak i f low (was i low set) from to none;
     fields_are = λ j there. (let at = are.fields_are j there in (at.0, at.1, kept at.0 at.1 ∙ at.2, at.3, at.4));
+    weaks_are = λ j there. (let at = are.weaks_are j there in (at.0, at.1, kept at.0 at.1 ∙ at.2, at.3, at.4));
   }
 
-  pub clean-on : (cards : List ℕ) → AreCleanCards edition words before old cards → AreCleanCards edition words after old cards
-  clean-on cards are = record {
-    clean = λ i f low set from to none. below-same _ ∙ are.clean i f low (was i low set) from to none;
-    weak = λ i f low set from to. below-same _ ∙ are.weak i f low (was i low set) from to;
-  }
-
-  pub found-back : (cards fields : List ℕ) (upto : ℕ) → AreFound edition words after old cards upto fields → AreFound edition words before old cards upto fields
-  found-back cards fields upto are = record {
-    below = are.below;
-    rising = are.rising;
-    dirty = are.dirty;
-    above = λ j there. sym (below-same _) ∙ are.above j there;
-  }
-
-  pub gathered-back : (cards fields : List ℕ) (upto : ℕ) → AreGathered edition words after old cards upto fields → AreGathered edition words before old cards upto fields
-  gathered-back cards fields upto are = record {
-    below = are.below;
-    rising = are.rising;
-    fields_are = λ j there. (let at = are.fields_are j there in (at.0, at.1, was at.0 at.1 at.2, at.3, at.4));
-    dirty = are.dirty;
-    above = λ j there. sym (below-same _) ∙ are.above j there;
-    all = λ i f low set from to lt dirty above. are.all i f low (kept i low ∙ set) from to lt dirty (below-same _ ∙ above);
-  }
-
-  pub fault-back : (roots fields : List ℕ) (fault : SurveyFault) → IsYoungFaultOf edition words roots after old fields fault → IsYoungFaultOf edition words roots before old fields fault
-  fault-back roots fields TooLarge is = is
-  fault-back roots fields (BadRoot k) is = (is.0, sym (led-same edition before after old (length words) _ kept) ∙ is.1)
-  fault-back roots fields (BadReference j) is = (is.0, sym (led-same edition before after old (length words) _ kept) ∙ is.1)
-  fault-back roots fields (BadWeak j) is = is
-  fault-back roots fields (ObjectTooLong i) is = is
-  fault-back roots fields (ObjectPastEnd i) is = is
-  fault-back roots fields (Overlap i) is = is
-  fault-back roots fields OutOfMemory is = is
+  pub fault-back : (roots fields weaks : List ℕ) (fault : SurveyFault) → IsYoungFaultOf edition words roots after old fields weaks fault
+      → IsYoungFaultOf edition words roots before old fields weaks fault
+  fault-back roots fields weaks TooLarge is = is
+  fault-back roots fields weaks (BadRoot k) is = (is.0, sym (led-same edition before after old (length words) _ kept) ∙ is.1)
+  fault-back roots fields weaks (BadReference j) is = (is.0, sym (led-same edition before after old (length words) _ kept) ∙ is.1)
+  fault-back roots fields weaks (BadWeak j) is = is
+  fault-back roots fields weaks (ObjectTooLong i) is = is
+  fault-back roots fields weaks (ObjectPastEnd i) is = is
+  fault-back roots fields weaks (Overlap i) is = is
+  fault-back roots fields weaks OutOfMemory is = is

@@ -40,20 +40,21 @@ module _ (edition : Edition) (words rest starts : List ℕ) (are : AreOld editio
             (at.0, at.1, (at.2.0, omega (arith, at.2.1, sized)));
       }
 
-  pub longer-remembered : AreRemembered edition words starts (length words) [] → AreRemembered edition (words ++ rest) starts (length words) []
+  pub longer-remembered : AreRemembered edition words starts (length words) [] [] → AreRemembered edition (words ++ rest) starts (length words) [] []
   longer-remembered remembered = record {
     clean = λ i f low set from to none.
         let inside = are.inside i low set in
         let refs = ap refs_of (header-same i low) in
         let word = get_or_append_left words rest 0 (i + f) (omega (arith, inside, to, refs)) in
         ap (is_below_led edition starts (length words)) word ∙ remembered.clean i f low set from (omega (arith, to, refs)) none;
-    weak = λ i f low set from to.
+    weak = λ i f low set from to none.
         let inside = are.inside i low set in
         let refs = ap refs_of (header-same i low) in
         let weak = ap weak_of (header-same i low) in
         let word = get_or_append_left words rest 0 (i + f) (omega (arith, inside, to, refs, weak)) in
-        ap (is_below_led edition starts (length words)) word ∙ remembered.weak i f low set (omega (arith, from, refs)) (omega (arith, to, refs, weak));
+        ap (is_below_led edition starts (length words)) word ∙ remembered.weak i f low set (omega (arith, from, refs)) (omega (arith, to, refs, weak)) none;
     fields_are = λ j there. absurd (let no : false ≡ true = there in cc);
+    weaks_are = λ j there. absurd (let no : false ≡ true = there in cc);
   }
 
 -- ---- after a young collection
@@ -71,7 +72,7 @@ module _ (edition : Edition) (words roots heads next : List ℕ) (old total : �
   long : total ≡ length left
   long = is.live ∙ sym (settled-all heap is.sound)
 
-  same : marks_of next ≡ places heap
+  pub same : marks_of next ≡ places heap
   same = next-is edition words roots heads next old after is.sound old_are kept total is.live
       (λ i lt. ap (λ (ws : List ℕ). header_at edition ws i) is.words ∙ ap (header_of edition) (get_or_append_left left (drop total words) 0 i (omega (arith, lt, long))))
       starts all
@@ -81,7 +82,7 @@ module _ (edition : Edition) (words roots heads next : List ℕ) (old total : �
       let row = longer-old edition left (drop total words) next (all-old heap is.sound next same) in
       subst (λ (n : ℕ). AreOld edition after next n) (sym long) (subst (λ (ws : List ℕ). AreOld edition ws next (length left)) (sym is.words) row)
 
-  pub next-clean : AreRemembered edition after next total []
+  pub next-clean : AreRemembered edition after next total [] []
   next-clean =
       let clean = longer-remembered edition left (drop total words) next (all-old heap is.sound next same) (none-remembered heap is.sound next same) in
-      subst (λ (n : ℕ). AreRemembered edition after next n []) (sym long) (subst (λ (ws : List ℕ). AreRemembered edition ws next (length left) []) (sym is.words) clean)
+      subst (λ (n : ℕ). AreRemembered edition after next n [] []) (sym long) (subst (λ (ws : List ℕ). AreRemembered edition ws next (length left) [] []) (sym is.words) clean)

@@ -1,4 +1,4 @@
--- The references of old objects on dirty cards, as far as they were gathered.
+-- The words of old objects that are asked for, as far as they were gathered.
 use Rattle.std.proofs.Common.{◌≡◌, ℕ, zero, suc, Result, Ok, Err, OnErr, ◌+◌, ◌-◌, ◌<◌, ◌≤◌, ◌⊎◌, ◌==◌, ◌&&◌, Bool, not, true, false, cond, leb, ltb, eqb, List, [], ◌∷◌, ◌++◌, All, length, get_or, inl, inr, sym, ap, subst, ◌∙◌, arith, length-append}
 use Rattle.std.specs.List.Sorted.{IsStrictlyIncreasing}
 use Rattle.std.proofs.lemmas.Bool.{both_ways, not-true, cases_Bool, cases_lt, cases_order, and_parts, and_from, or_cases, or_left, or_right, le-leb, lt-ltb, leb-true, ltb-true, eqb-true}
@@ -7,12 +7,12 @@ use Rattle.std.proofs.lemmas.List.Elements.{All-push, All-nil}
 use Rattle.std.proofs.lemmas.List.Folds.{list_any-append}
 use Rattle.heap_layout.specs.declared.edition.Edition.{Edition}
 use Rattle.heap_layout.specs.Bits.{bit}
-use Rattle.heap_layout.specs.Header.{refs_of, size_of}
+use Rattle.heap_layout.specs.Header.{Head, refs_of, weak_of, size_of}
 use Rattle.heap_layout.specs.Heap.{header_at}
 use Rattle.reachability.specs.Queue.{has}
 use Rattle.reachability.proofs.Queues.{has-first}
-use Rattle.young_heap.specs.Cards.{is_dirty, with_word, AreCleanCards, AreFound, AreGathered, IsOwner}
-use Rattle.young_heap.specs.Young.{is_below_led, AreOld, AreRemembered}
+use Rattle.young_heap.specs.Cards.{with_word, AreFound, AreGathered, AreGatheredOf, AreGatheredWeak, AreUnasked, IsOwner}
+use Rattle.young_heap.specs.Young.{is_below_led, AreFieldsBelow, AreOld, AreRemembered}
 use Rattle.young_heap.specs.declared.remembering.Owner.{Owner}
 
 -- a list with one more at its end
@@ -67,165 +67,30 @@ pub on_err : {T E P : Type 0} (result : Result T E) → P → OnErr result P
 on_err (Ok _) is = tt
 on_err (Err _) is = is
 
-module _ (edition : Edition) (words starts : List ℕ) (old : ℕ) (cards : List ℕ) where
-  -- nothing is found before the first word
-  pub found-none : AreFound edition words starts old cards 0 []
-  found-none = record {
-    below = All-nil (λ j. j < 0);
-    rising = λ k within. absurd (omega (arith, within));
-    dirty = λ j there. absurd (let no : false ≡ true = there in cc);
-    above = λ j there. absurd (let no : false ≡ true = there in cc);
-  }
-
-  -- nor on a clean card
-  pub found-skip : (first end : ℕ) (fields : List ℕ) → AreFound edition words starts old cards first fields → first ≤ end
-      → AreFound edition words starts old cards end fields
-  found-skip first end fields are le = record {
-    below = λ k d lt. (let low = are.below k d lt in omega (arith, low, le));
-    rising = are.rising;
-    dirty = are.dirty;
-    above = are.above;
-  }
-
-  -- one word more
-  pub found-next : (owner : Owner) (j : ℕ) (fields : List ℕ) → AreFound edition words starts old cards j fields
-      → is_dirty cards j ≡ true → AreFound edition words starts old cards (j + 1) (with_word edition words starts old owner fields j)
-  found-next owner j fields are on_dirty =
-      let led = is_below_led edition starts old (get_or words j 0) in
-      let test = ltb owner.start j && (leb j (owner.start + owner.refs) && not led) in
-      elim (cases_Bool test) [
-        | inl holds ↦
-            let parts = and_parts (ltb owner.start j) (leb j (owner.start + owner.refs) && not led) holds in
-            let others = and_parts (leb j (owner.start + owner.refs)) (not led) parts.1 in
-            let now : with_word edition words starts old owner fields j ≡ fields ++ j ∷ [] =
-            ap (λ (b : Bool). cond b (fields ++ j ∷ []) fields) holds in
-            let result : AreFound edition words starts old cards (j + 1) (fields ++ j ∷ []) = record {
-              below = All-push (λ n. n < j + 1) fields j (λ k d lt. (let low = are.below k d lt in omega (arith, low))) (omega arith);
-              rising = rising-push fields j are.rising are.below;
-              dirty = λ n there. elim (has-cases fields j n there) [
-                | inl before ↦ are.dirty n before
-                | inr same ↦ ap (is_dirty cards) same ∙ on_dirty
-              ];
-              above = λ n there. elim (has-cases fields j n there) [
-                | inl before ↦ are.above n before
-                | inr same ↦ ap (λ (k : ℕ). is_below_led edition starts old (get_or words k 0)) same ∙ not-true led others.1
-              ];
-            } in
-            subst (AreFound edition words starts old cards (j + 1)) (sym now) result
-        | inr fails ↦
-            let now : with_word edition words starts old owner fields j ≡ fields =
-            ap (λ (b : Bool). cond b (fields ++ j ∷ []) fields) fails in
-            subst (AreFound edition words starts old cards (j + 1)) (sym now) (found-skip j (j + 1) fields are (omega arith))
-      ]
-
-  -- nothing is gathered before the first word
-  pub gathered-none : AreGathered edition words starts old cards 0 []
-  gathered-none = record {
-    below = All-nil (λ j. j < 0);
-    rising = λ k within. absurd (omega (arith, within));
-    fields_are = λ j there. absurd (let no : false ≡ true = there in cc);
-    dirty = λ j there. absurd (let no : false ≡ true = there in cc);
-    above = λ j there. absurd (let no : false ≡ true = there in cc);
-    all = λ i f low set from to lt. absurd (omega (arith, lt));
-  }
-
-  -- a clean card has nothing
-  pub gathered-skip : (first end : ℕ) (fields : List ℕ) → AreGathered edition words starts old cards first fields → first ≤ end
-      → ((j : ℕ) → first ≤ j → j < end → is_dirty cards j ≡ false) → AreGathered edition words starts old cards end fields
-  gathered-skip first end fields are le clean = record {
-    below = λ k d lt. (let low = are.below k d lt in omega (arith, low, le));
-    rising = are.rising;
-    fields_are = are.fields_are;
-    dirty = are.dirty;
-    above = are.above;
-    all = λ i f low set from to lt dirty above. elim (cases_lt (i + f) first) [
-      | inl before ↦ are.all i f low set from to before dirty above
-      | inr here ↦ absurd (both_ways (is_dirty cards (i + f)) (clean (i + f) here lt) dirty)
-    ];
-  }
-
+module _ (edition : Edition) (words starts : List ℕ) (old : ℕ) where
   -- what a header says of an old object
-  pub owner-from : (owner : Owner) (start : ℕ) → owner.start ≡ start → owner.refs ≡ refs_of (header_at edition words start)
-      → owner.end ≡ start + size_of (header_at edition words start) → start < old → bit starts start ≡ true
-      → IsOwner edition words starts old owner start
-  owner-from owner start same refs ends low set = record {
+  pub owner-from : (owner : Owner) (start : ℕ) → owner.start ≡ start → owner.last_ref ≡ start + refs_of (header_at edition words start)
+      → owner.last_weak ≡ owner.last_ref + weak_of (header_at edition words start) → owner.end ≡ start + size_of (header_at edition words start)
+      → start < old → bit starts start ≡ true → IsOwner edition words starts old owner start
+  owner-from owner start same refs weak ends low set = record {
     start = ap (bit starts) same ∙ set;
     low = omega (arith, same, low);
     from = omega (arith, same);
     to = omega (arith, ends);
-    refs = refs ∙ ap (λ (n : ℕ). refs_of (header_at edition words n)) (sym same);
+    last_ref = refs ∙ ap (λ (n : ℕ). n + refs_of (header_at edition words n)) (sym same);
+    last_weak = weak ∙ ap (λ (n : ℕ). owner.last_ref + weak_of (header_at edition words n)) (sym same);
     ends = ends ∙ ap (λ (n : ℕ). n + size_of (header_at edition words n)) (sym same);
   }
 
   module _ (old_are : AreOld edition words starts old) where
     -- the object that has a word is the owner
-    owner-is : (owner : Owner) (j i : ℕ) → IsOwner edition words starts old owner j → j < owner.end → i < old → bit starts i ≡ true → i ≤ j
+    pub owner-is : (owner : Owner) (j i : ℕ) → IsOwner edition words starts old owner j → j < owner.end → i < old → bit starts i ≡ true → i ≤ j
         → j < i + size_of (header_at edition words i) → i ≡ owner.start
     owner-is owner j i is inside low set from to = elim (cases_order i owner.start) [
       | inl same ↦ same
       | inr (inl less) ↦ absurd (let apart = old_are.apart i owner.start set is.start less is.low in omega (arith, apart, is.from, to))
       | inr (inr more) ↦ absurd (let apart = old_are.apart owner.start i is.start set more low in omega (arith, apart, inside, is.ends, from))
     ]
-
-    -- one word more
-    pub gathered-next : (owner : Owner) (j : ℕ) (fields : List ℕ) → AreGathered edition words starts old cards j fields → IsOwner edition words starts old owner j
-        → j < owner.end → is_dirty cards j ≡ true → AreGathered edition words starts old cards (j + 1) (with_word edition words starts old owner fields j)
-    gathered-next owner j fields are is inside on_dirty =
-        let led = is_below_led edition starts old (get_or words j 0) in
-        let test = ltb owner.start j && (leb j (owner.start + owner.refs) && not led) in
-        elim (cases_Bool test) [
-          | inl holds ↦
-              let parts = and_parts (ltb owner.start j) (leb j (owner.start + owner.refs) && not led) holds in
-              let others = and_parts (leb j (owner.start + owner.refs)) (not led) parts.1 in
-              let now : with_word edition words starts old owner fields j ≡ fields ++ j ∷ [] = ap (λ (b : Bool). cond b (fields ++ j ∷ []) fields) holds in
-              let result : AreGathered edition words starts old cards (j + 1) (fields ++ j ∷ []) = record {
-                below = All-push (λ n. n < j + 1) fields j (λ k d lt. (let low = are.below k d lt in omega (arith, low))) (omega arith);
-                rising = rising-push fields j are.rising are.below;
-                fields_are = λ n there. elim (has-cases fields j n there) [
-                  | inl before ↦ are.fields_are n before
-                  | inr same ↦
-                      let above = ltb-true owner.start j parts.0 in
-                      let few = leb-true j (owner.start + owner.refs) others.0 in
-                      (owner.start, is.low, is.start, omega (arith, above, same), omega (arith, few, same, is.refs))
-                ];
-                dirty = λ n there. elim (has-cases fields j n there) [
-                  | inl before ↦ are.dirty n before
-                  | inr same ↦ ap (is_dirty cards) same ∙ on_dirty
-                ];
-                above = λ n there. elim (has-cases fields j n there) [
-                  | inl before ↦ are.above n before
-                  | inr same ↦ ap (λ (k : ℕ). is_below_led edition starts old (get_or words k 0)) same ∙ not-true led others.1
-                ];
-                all = λ i f low set from to lt dirty above. elim (cases_lt (i + f) j) [
-                  | inl before ↦ has-more fields j (i + f) (are.all i f low set from to before dirty above)
-                  | inr here ↦
-                      let same : j ≡ i + f = omega (arith, lt, here) in
-                      subst (λ (n : ℕ). has (fields ++ j ∷ []) n ≡ true) same (has-new fields j)
-                ];
-              } in
-              subst (AreGathered edition words starts old cards (j + 1)) (sym now) result
-          | inr fails ↦
-              let now : with_word edition words starts old owner fields j ≡ fields = ap (λ (b : Bool). cond b (fields ++ j ∷ []) fields) fails in
-              let result : AreGathered edition words starts old cards (j + 1) fields = record {
-                below = λ k d lt. (let low = are.below k d lt in omega (arith, low));
-                rising = are.rising;
-                fields_are = are.fields_are;
-                dirty = are.dirty;
-                above = are.above;
-                all = λ i f low set from to lt dirty above. elim (cases_lt (i + f) j) [
-                  | inl before ↦ are.all i f low set from to before dirty above
-                  | inr here ↦ absurd (
-                      let same : i + f ≡ j = omega (arith, lt, here) in
-                      let own = owner-is owner j i is inside low set (omega (arith, same)) (omega (arith, same, to)) in
-                      let refs = is.refs ∙ ap (λ (n : ℕ). refs_of (header_at edition words n)) (sym own) in
-                      let unled : led ≡ false = sym (ap (λ (n : ℕ). is_below_led edition starts old (get_or words n 0)) same) ∙ above in
-                      both_ways test fails
-                      (and_from (ltb owner.start j) (leb j (owner.start + owner.refs) && not led) (lt-ltb owner.start j (omega (arith, own, same, from)))
-                      (and_from (leb j (owner.start + owner.refs)) (not led) (le-leb j (owner.start + owner.refs) (omega (arith, own, same, to, refs))) (ap not unled))))
-                ];
-              } in
-              subst (AreGathered edition words starts old cards (j + 1)) (sym now) result
-        ]
 
     -- an object starts where another one ends
     pub start-behind : (i : ℕ) → i < old → bit starts i ≡ true → i + size_of (header_at edition words i) < old → bit starts (i + size_of (header_at edition words i)) ≡ true
@@ -242,32 +107,206 @@ module _ (edition : Edition) (words starts : List ℕ) (old : ℕ) (cards : List
               sym (ap (bit starts) same) ∙ at.1
         ]
 
-    -- the last start before a word is its owner's
-    pub last-owner : (owner : Owner) (word : ℕ) → IsOwner edition words starts old owner owner.start → owner.start ≤ word → word < old
-        → ((j : ℕ) → owner.start < j → j ≤ word → bit starts j ≡ false) → IsOwner edition words starts old owner word
-    last-owner owner word is from inside none =
+    -- the last object that starts at or before a word goes on behind it
+    pub last-inside : (owner : Owner) (word : ℕ) → IsOwner edition words starts old owner owner.start → owner.start ≤ word → word < old
+        → ((j : ℕ) → owner.start < j → j ≤ word → bit starts j ≡ false) → word < owner.end
+    last-inside owner word is from inside none =
         let at = old_are.row word inside in
         let s = at.0 in
-        let ends : word < owner.end = elim (cases_order s owner.start) [
+        elim (cases_order s owner.start) [
           | inl same ↦ (let sized = ap (λ (n : ℕ). size_of (header_at edition words n)) same in omega (arith, at.2.1, same, sized, is.ends))
           | inr (inl less) ↦ absurd (let apart = old_are.apart s owner.start at.1 is.start less is.low in omega (arith, apart, at.2.1, from))
           | inr (inr more) ↦ absurd (both_ways (bit starts s) (none s more at.2.0) at.1)
-        ] in
-        record { start = is.start; low = is.low; from = from; to = omega (arith, ends); refs = is.refs; ends = is.ends }
+        ]
 
--- what is gathered is all that has to be remembered, if references on clean cards lead below
-pub gathered-remembered : (edition : Edition) (words starts : List ℕ) (old : ℕ) (cards fields : List ℕ) → AreCleanCards edition words starts old cards
-    → AreGathered edition words starts old cards old fields → AreOld edition words starts old → AreRemembered edition words starts old fields
-gathered-remembered edition words starts old cards fields clean are old_are = record {
-  clean = λ i f low set from to none. elim (cases_Bool (is_dirty cards (i + f))) [
-    | inr not_dirty ↦ clean.clean i f low set from to not_dirty
-    | inl dirty ↦ elim (cases_Bool (is_below_led edition starts old (get_or words (i + f) 0))) [
+    -- so it is the word's owner
+    pub last-owner : (owner : Owner) (word : ℕ) → IsOwner edition words starts old owner owner.start → owner.start ≤ word → word < old
+        → ((j : ℕ) → owner.start < j → j ≤ word → bit starts j ≡ false) → IsOwner edition words starts old owner word
+    last-owner owner word is from inside none =
+        let ends = last-inside owner word is from inside none in
+        record { start = is.start; low = is.low; from = from; to = omega (arith, ends); last_ref = is.last_ref; last_weak = is.last_weak; ends = is.ends }
+
+module _ (edition : Edition) (words starts : List ℕ) (old : ℕ) (asked : ℕ → Bool) where
+  -- nothing is found before the first word
+  pub found-none : AreFound edition words starts old asked 0 []
+  found-none = record {
+    below = All-nil (λ j. j < 0);
+    rising = λ k within. absurd (omega (arith, within));
+    among = λ j there. absurd (let no : false ≡ true = there in cc);
+    above = λ j there. absurd (let no : false ≡ true = there in cc);
+  }
+
+  -- nor where nothing is asked for
+  pub found-skip : (first end : ℕ) (fields : List ℕ) → AreFound edition words starts old asked first fields → first ≤ end
+      → AreFound edition words starts old asked end fields
+  found-skip first end fields are le = record {
+    below = λ k d lt. (let low = are.below k d lt in omega (arith, low, le));
+    rising = are.rising;
+    among = are.among;
+    above = are.above;
+  }
+
+  -- one word more
+  pub found-next : (a b j : ℕ) (fields : List ℕ) → AreFound edition words starts old asked j fields
+      → asked j ≡ true → AreFound edition words starts old asked (j + 1) (with_word edition words starts old a b fields j)
+  found-next a b j fields are is_asked =
+      let led = is_below_led edition starts old (get_or words j 0) in
+      let test = ltb a j && (leb j b && not led) in
+      elim (cases_Bool test) [
+        | inl holds ↦
+            let parts = and_parts (ltb a j) (leb j b && not led) holds in
+            let others = and_parts (leb j b) (not led) parts.1 in
+            let now : with_word edition words starts old a b fields j ≡ fields ++ j ∷ [] =
+            ap (λ (b : Bool). cond b (fields ++ j ∷ []) fields) holds in
+            let result : AreFound edition words starts old asked (j + 1) (fields ++ j ∷ []) = record {
+              below = All-push (λ n. n < j + 1) fields j (λ k d lt. (let low = are.below k d lt in omega (arith, low))) (omega arith);
+              rising = rising-push fields j are.rising are.below;
+              among = λ n there. elim (has-cases fields j n there) [
+                | inl before ↦ are.among n before
+                | inr same ↦ ap asked same ∙ is_asked
+              ];
+              above = λ n there. elim (has-cases fields j n there) [
+                | inl before ↦ are.above n before
+                | inr same ↦ ap (λ (k : ℕ). is_below_led edition starts old (get_or words k 0)) same ∙ not-true led others.1
+              ];
+            } in
+            subst (AreFound edition words starts old asked (j + 1)) (sym now) result
+        | inr fails ↦
+            let now : with_word edition words starts old a b fields j ≡ fields =
+            ap (λ (b : Bool). cond b (fields ++ j ∷ []) fields) fails in
+            subst (AreFound edition words starts old asked (j + 1)) (sym now) (found-skip j (j + 1) fields are (omega arith))
+      ]
+
+  module _ (first last : Head → ℕ) where
+    -- nothing is gathered before the first word
+    pub gathered-none : AreGatheredOf first last edition words starts old asked 0 []
+    gathered-none = record {
+      below = All-nil (λ j. j < 0);
+      rising = λ k within. absurd (omega (arith, within));
+      fields_are = λ j there. absurd (let no : false ≡ true = there in cc);
+      among = λ j there. absurd (let no : false ≡ true = there in cc);
+      above = λ j there. absurd (let no : false ≡ true = there in cc);
+      all = λ i f low set from to lt. absurd (omega (arith, lt));
+    }
+
+    -- nor where nothing is asked for
+    pub gathered-skip : (start end : ℕ) (fields : List ℕ) → AreGatheredOf first last edition words starts old asked start fields → start ≤ end
+        → ((j : ℕ) → start ≤ j → j < end → asked j ≡ false) → AreGatheredOf first last edition words starts old asked end fields
+    gathered-skip start end fields are le none = record {
+      below = λ k d lt. (let low = are.below k d lt in omega (arith, low, le));
+      rising = are.rising;
+      fields_are = are.fields_are;
+      among = are.among;
+      above = are.above;
+      all = λ i f low set from to lt is_asked above. elim (cases_lt (i + f) start) [
+        | inl before ↦ are.all i f low set from to before is_asked above
+        | inr here ↦ absurd (both_ways (asked (i + f)) (none (i + f) here lt) is_asked)
+      ];
+    }
+
+    -- one word more
+    pub gathered-next : AreOld edition words starts old → ((h : Head) → last h < size_of h) → (owner : Owner) (a b j : ℕ) (fields : List ℕ)
+        → a ≡ owner.start + first (header_at edition words owner.start) → b ≡ owner.start + last (header_at edition words owner.start)
+        → AreGatheredOf first last edition words starts old asked j fields → IsOwner edition words starts old owner j → j < owner.end → asked j ≡ true
+        → AreGatheredOf first last edition words starts old asked (j + 1) (with_word edition words starts old a b fields j)
+    gathered-next old_are fits owner a b j fields at_first at_last are is inside is_asked =
+        let led = is_below_led edition starts old (get_or words j 0) in
+        let test = ltb a j && (leb j b && not led) in
+        elim (cases_Bool test) [
+          | inl holds ↦
+              let parts = and_parts (ltb a j) (leb j b && not led) holds in
+              let others = and_parts (leb j b) (not led) parts.1 in
+              let now : with_word edition words starts old a b fields j ≡ fields ++ j ∷ [] = ap (λ (b : Bool). cond b (fields ++ j ∷ []) fields) holds in
+              let result : AreGatheredOf first last edition words starts old asked (j + 1) (fields ++ j ∷ []) = record {
+                below = All-push (λ n. n < j + 1) fields j (λ k d lt. (let low = are.below k d lt in omega (arith, low))) (omega arith);
+                rising = rising-push fields j are.rising are.below;
+                fields_are = λ n there. elim (has-cases fields j n there) [
+                  | inl before ↦ are.fields_are n before
+                  | inr same ↦
+                      let above = ltb-true a j parts.0 in
+                      let few = leb-true j b others.0 in
+                      (owner.start, is.low, is.start, omega (arith, above, same, at_first), omega (arith, few, same, at_last))
+                ];
+                among = λ n there. elim (has-cases fields j n there) [
+                  | inl before ↦ are.among n before
+                  | inr same ↦ ap asked same ∙ is_asked
+                ];
+                above = λ n there. elim (has-cases fields j n there) [
+                  | inl before ↦ are.above n before
+                  | inr same ↦ ap (λ (k : ℕ). is_below_led edition starts old (get_or words k 0)) same ∙ not-true led others.1
+                ];
+                all = λ i f low set from to lt is_asked above. elim (cases_lt (i + f) j) [
+                  | inl before ↦ has-more fields j (i + f) (are.all i f low set from to before is_asked above)
+                  | inr here ↦
+                      let same : j ≡ i + f = omega (arith, lt, here) in
+                      subst (λ (n : ℕ). has (fields ++ j ∷ []) n ≡ true) same (has-new fields j)
+                ];
+              } in
+              subst (AreGatheredOf first last edition words starts old asked (j + 1)) (sym now) result
+          | inr fails ↦
+              let now : with_word edition words starts old a b fields j ≡ fields = ap (λ (b : Bool). cond b (fields ++ j ∷ []) fields) fails in
+              let result : AreGatheredOf first last edition words starts old asked (j + 1) fields = record {
+                below = λ k d lt. (let low = are.below k d lt in omega (arith, low));
+                rising = are.rising;
+                fields_are = are.fields_are;
+                among = are.among;
+                above = are.above;
+                all = λ i f low set from to lt is_asked above. elim (cases_lt (i + f) j) [
+                  | inl before ↦ are.all i f low set from to before is_asked above
+                  | inr here ↦ absurd (
+                      let same : i + f ≡ j = omega (arith, lt, here) in
+                      let short = fits (header_at edition words i) in
+                      let own = owner-is edition words starts old old_are owner j i is inside low set (omega (arith, same)) (omega (arith, same, to, short)) in
+                      let firsts = ap (λ (n : ℕ). first (header_at edition words n)) own in
+                      let lasts = ap (λ (n : ℕ). last (header_at edition words n)) own in
+                      let unled : led ≡ false = sym (ap (λ (n : ℕ). is_below_led edition starts old (get_or words n 0)) same) ∙ above in
+                      both_ways test fails
+                      (and_from (ltb a j) (leb j b && not led) (lt-ltb a j (omega (arith, own, same, from, firsts, at_first)))
+                      (and_from (leb j b) (not led) (le-leb j b (omega (arith, own, same, to, lasts, at_last))) (ap not unled))))
+                ];
+              } in
+              subst (AreGatheredOf first last edition words starts old asked (j + 1)) (sym now) result
+        ]
+
+-- fields that were found are words below, rising
+pub found-below : (edition : Edition) (words starts : List ℕ) (old : ℕ) (asked : ℕ → Bool) (fields : List ℕ) → AreFound edition words starts old asked old fields
+    → AreFieldsBelow old fields
+found-below edition words starts old asked fields are = record { below = are.below; rising = are.rising }
+
+-- a word that was found is asked for, and does not lead below
+pub found-not : (edition : Edition) (words starts : List ℕ) (old : ℕ) (asked : ℕ → Bool) (fields : List ℕ) → AreFound edition words starts old asked old fields
+    → (j : ℕ) → (asked j ≡ false) ⊎ (is_below_led edition starts old (get_or words j 0) ≡ true) → has fields j ≡ false
+found-not edition words starts old asked fields are j out = elim (cases_Bool (has fields j)) [
+  | inr none ↦ none
+  | inl there ↦ absurd (elim out [
+    | inl unasked ↦ both_ways (asked j) unasked (are.among j there)
+    | inr led ↦ both_ways (is_below_led edition starts old (get_or words j 0)) (are.above j there) led
+  ])
+]
+
+-- what is gathered is all that has to be remembered, if what is not asked for leads below
+pub gathered-remembered : (edition : Edition) (words starts : List ℕ) (old : ℕ) (asked : ℕ → Bool) (fields weaks : List ℕ) → AreUnasked edition words starts old asked
+    → AreGathered edition words starts old asked old fields → AreGatheredWeak edition words starts old asked old weaks → AreOld edition words starts old
+    → AreRemembered edition words starts old fields weaks
+gathered-remembered edition words starts old asked fields weaks clean are weak_are old_are = record {
+  clean = λ i f low set from to none. elim (cases_Bool (asked (i + f))) [
+    | inr unasked ↦ clean.clean i f low set from to unasked
+    | inl is_asked ↦ elim (cases_Bool (is_below_led edition starts old (get_or words (i + f) 0))) [
       | inl led ↦ led
       | inr above ↦ absurd (
           let inside = old_are.inside i low set in
-          both_ways (has fields (i + f)) none (are.all i f low set from to (omega (arith, inside, to)) dirty above))
+          both_ways (has fields (i + f)) none (are.all i f low set (omega (arith, from)) to (omega (arith, inside, to)) is_asked above))
     ]
   ];
-  weak = clean.weak;
-  fields_are = are.fields_are;
+  weak = λ i f low set from to none. elim (cases_Bool (asked (i + f))) [
+    | inr unasked ↦ clean.weak i f low set from to unasked
+    | inl is_asked ↦ elim (cases_Bool (is_below_led edition starts old (get_or words (i + f) 0))) [
+      | inl led ↦ led
+      | inr above ↦ absurd (
+          let inside = old_are.inside i low set in
+          both_ways (has weaks (i + f)) none (weak_are.all i f low set from to (omega (arith, inside, to)) is_asked above))
+    ]
+  ];
+  fields_are = λ j there. (let at = are.fields_are j there in (at.0, at.1, at.2, omega (arith, at.3), at.4));
+  weaks_are = λ j there. (let at = weak_are.fields_are j there in (at.0, at.1, at.2, at.3, omega (arith, at.4)));
 }

@@ -21,7 +21,7 @@ use Rattle.stopped_heap.proofs.Lent as lent
 use Rattle.young_heap.specs.Young.{is_led, is_below_led, may_lead, seeds, words_at, AllLed, AreKeptBelow, AreOld, AreRemembered, IsDoneAbove, IsReachedAbove, LeadAbove, by_seed, by_reference}
 
 -- What marking found above the old objects.
-pub record IsMarkedAbove (edition : Edition) (old : ℕ) (words roots fields starts heads bits : List ℕ) : Type 0 where
+pub record IsMarkedAbove (edition : Edition) (old : ℕ) (words roots fields weaks starts heads bits : List ℕ) : Type 0 where
   pub few_words : length words ≤ most_words edition
   pub few_roots : length roots ≤ most_roots edition
   pub reached : (i : ℕ) → old ≤ i → bit heads i ≡ true → IsReachedAbove edition old words (seeds words roots fields) i
@@ -31,13 +31,14 @@ pub record IsMarkedAbove (edition : Edition) (old : ℕ) (words roots fields sta
   pub apart : (i j : ℕ) → old ≤ i → bit heads i ≡ true → bit heads j ≡ true → i < j → i + size_of (header_at edition words i) ≤ j
   pub roots_lead : AllLed edition starts old (length words) roots
   pub fields_lead : AllLed edition starts old (length words) (words_at words fields)
+  pub weaks_lead : (j : ℕ) → has weaks j ≡ true → is_within edition (length words) (get_or words j 0) ≡ true
   pub heads_below : AreKeptBelow old starts heads
   pub bits_below : (j : ℕ) → j < old → bit bits j ≡ true
   pub room : length words ≤ 64 * length bits
 
-module _ (edition : Edition) (old : ℕ) (words roots fields starts heads bits : List ℕ)
-    (old_are : AreOld edition words starts old) (remembered : AreRemembered edition words starts old fields)
-    (marked : IsMarkedAbove edition old words roots fields starts heads bits) where
+module _ (edition : Edition) (old : ℕ) (words roots fields weaks starts heads bits : List ℕ)
+    (old_are : AreOld edition words starts old) (remembered : AreRemembered edition words starts old fields weaks)
+    (marked : IsMarkedAbove edition old words roots fields weaks starts heads bits) where
   abbrev count : ℕ
   count = length words
 
@@ -165,8 +166,12 @@ module _ (edition : Edition) (old : ℕ) (words roots fields starts heads bits :
     weak = λ k lt.
         let at = weak-at i k lt in
         let refs = refs_of (header_at edition words i) in
-        subst (λ (w : ℕ). is_within edition count w ≡ true) (sym at.1)
-        (below-within (get_or words (i + (1 + refs + k)) 0) (remembered.weak i (1 + refs + k) below start (omega arith) (omega (arith, at.0))));
+        let j = i + (1 + refs + k) in
+        let word : is_within edition count (get_or words j 0) ≡ true = elim (cases_Bool (has weaks j)) [
+          | inl there ↦ marked.weaks_lead j there
+          | inr none ↦ below-within (get_or words j 0) (remembered.weak i (1 + refs + k) below start (omega arith) (omega (arith, at.0)) none)
+        ] in
+        subst (λ (w : ℕ). is_within edition count w ≡ true) (sym at.1) word;
   }
 
   -- so is one above

@@ -16,3 +16,6 @@ pub mod Storing
 pub mod Beginning
 pub mod Lengthening
 pub mod Watermarks
+pub mod Listed
+pub mod Made
+pub mod Parting

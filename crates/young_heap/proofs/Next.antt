@@ -47,13 +47,13 @@ module _ (heap : Heap) (is : IsSound heap) (starts : List ℕ) (same : marks_of 
   sound = closed-sound (collected heap) (closed (collected heap) (collected-accepted heap is))
 
   -- a start is the place of an object
-  number : (i : ℕ) → bit starts i ≡ true → (k : ℕ) × (k < length heap.marks) × (get_or (places heap) k 0 ≡ i)
+  pub number : (i : ℕ) → bit starts i ≡ true → (k : ℕ) × (k < length heap.marks) × (get_or (places heap) k 0 ≡ i)
   number i set =
       let at = head-number starts i set in
       let lt : at.0 < length (places heap) = omega (arith, at.1, ap length same) in
       (at.0, omega (arith, lt, many heap is), sym (ap (λ (xs : List ℕ). get_or xs at.0 0) same) ∙ at.2)
 
-  start-set : (k : ℕ) → k < length heap.marks → bit starts (place k) ≡ true
+  pub start-set : (k : ℕ) → k < length heap.marks → bit starts (place k) ≡ true
   start-set k lt =
       let known : k < length (marks_of starts) = omega (arith, lt, many heap is, ap length same) in
       sym (ap (bit starts) (ap (λ (xs : List ℕ). get_or xs k 0) same ∙ place-at heap is k lt)) ∙ mark-set starts k known
@@ -154,7 +154,7 @@ module _ (heap : Heap) (is : IsSound heap) (starts : List ℕ) (same : marks_of 
   ]
 
   -- so no field is remembered
-  pub none-remembered : AreRemembered edition words starts (length words) []
+  pub none-remembered : AreRemembered edition words starts (length words) [] []
   none-remembered =
       let all : (i f : ℕ) → bit starts i ≡ true → 1 ≤ f → f ≤ refs_of (header_at edition words i) + weak_of (header_at edition words i)
       → is_below_led edition starts (length words) (get_or words (i + f) 0) ≡ true = λ i f set from to.
@@ -167,6 +167,7 @@ module _ (heap : Heap) (is : IsSound heap) (starts : List ℕ) (same : marks_of 
       ap (is_below_led edition starts (length words)) word ∙ settled-led (get_or heap.words (get_or heap.marks k 0 + f) 0) in
       record {
         clean = λ i f low set from to none. all i f set from (omega (arith, to));
-        weak = λ i f low set from to. all i f set (omega (arith, from)) to;
+        weak = λ i f low set from to none. all i f set (omega (arith, from)) to;
         fields_are = λ j there. absurd (let no : false ≡ true = there in cc);
+        weaks_are = λ j there. absurd (let no : false ≡ true = there in cc);
       }

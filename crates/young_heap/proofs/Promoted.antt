@@ -1,5 +1,5 @@
 -- What is promoted after a young collection is old then: the premise of the next one.
-use Rattle.std.proofs.Common.{◌≡◌, ℕ, zero, suc, ◌+◌, ◌-◌, ◌*◌, ◌<◌, ◌≤◌, true, List, [], length, get_or, take, inl, inr, sym, ap, subst, ◌∙◌, arith}
+use Rattle.std.proofs.Common.{◌≡◌, ℕ, zero, suc, ◌+◌, ◌-◌, ◌*◌, ◌<◌, ◌≤◌, true, List, length, get_or, take, inl, inr, sym, ap, subst, ◌∙◌, arith}
 use Rattle.std.proofs.lemmas.Bool.{cases_eq, cases_lt, cases_order}
 use Rattle.std.proofs.lemmas.List.{length-map}
 use Rattle.std.proofs.lemmas.List.Sums.{sum_by-take-le}
@@ -68,7 +68,7 @@ module _ (edition : Edition) (words roots heads next : List ℕ) (old : ℕ) (af
       let before : mark k < old = omega (arith, up, low) in
       let apart = marks-apart heap sound k (suc k) (omega arith) lt in
       let end = mark k + size_at (mark k) in
-      let set = start-behind edition words heads old [] old_are (mark k) before (mark-set heads k less) (omega (arith, apart, low)) in
+      let set = start-behind edition words heads old old_are (mark k) before (mark-set heads k less) (omega (arith, apart, low)) in
       let number = head-number heads end set in
       let same : mark (suc k) ≡ end = elim (cases_order number.0 (suc k)) [
         | inl equal ↦ sym (ap mark equal) ∙ number.2
@@ -103,7 +103,7 @@ module _ (edition : Edition) (words roots heads next : List ℕ) (old : ℕ) (af
             let ends : old ≤ mark k + size_at (mark k) = elim (cases_lt (mark k + size_at (mark k)) old) [
               | inr done ↦ done
               | inl short ↦ absurd (
-                  let set = start-behind edition words heads old [] old_are (mark k) low (mark-set heads k less) short in
+                  let set = start-behind edition words heads old old_are (mark k) low (mark-set heads k less) short in
                   let number = head-number heads (mark k + size_at (mark k)) set in
                   elim (cases_order number.0 (suc k)) [
                     | inl same ↦ (let e = ap mark same in omega (arith, e, number.2, high, short))

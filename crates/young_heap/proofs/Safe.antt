@@ -9,12 +9,13 @@ use Rattle.heap_layout.specs.Bits.{bit}
 use Rattle.heap_layout.specs.Header.{header_of, refs_of, size_of}
 use Rattle.heap_layout.specs.Heap.{header_at, object_at}
 use Rattle.heap_layout.specs.Values.{is_immediate}
-use Rattle.mark_tables.specs.MarkBitmap.{passing, set_bits}
+use Rattle.mark_tables.specs.MarkBitmap.{passing, set_bits, AreOffsets}
 use Rattle.mark_tables.specs.LiveWords.{live_below}
 use Rattle.mark_tables.proofs.NewPlaces.{below-all}
 use Rattle.mark_tables.proofs.Passing.{passing-all, passing-below, passing-few, passing-gap}
 use Rattle.reachability.specs.Queue.{has, is_address}
 use Rattle.reachability.proofs.Queues.{place-of}
+use Rattle.stopped_heap.specs.Reached.{IsWordOf}
 use Rattle.stopped_heap.proofs.Counts.{passing-more}
 use Rattle.young_heap.specs.Young.{is_led, may_lead, AreFieldsBelow, AreYoungTables, IsDoneAbove}
 use Rattle.young_heap.proofs.Staying.{ones-below}
@@ -36,7 +37,7 @@ counted-gap bits a b le within none =
     counted bits b within ∙ gap ∙ sym (counted bits a (omega (arith, le, within)))
 
 -- and more by as many as are set there, if all are
-counted-run : (bits : List ℕ) (a k : ℕ) → a + k ≤ 64 * length bits → ((j : ℕ) → a ≤ j → j < a + k → bit bits j ≡ true)
+pub counted-run : (bits : List ℕ) (a k : ℕ) → a + k ≤ 64 * length bits → ((j : ℕ) → a ≤ j → j < a + k → bit bits j ≡ true)
     → live_below (set_bits bits) (a + k) ≡ live_below (set_bits bits) a + k
 counted-run bits a k within all =
     let run = ap length (passing-all (bit bits) a k all) in
@@ -125,6 +126,30 @@ young-led edition starts old words bits i f done positive few =
     let word : get_or (object_at edition words i).references k 0 ≡ get_or words (i + f) 0 =
     get_or-take refs behind k 0 (omega (arith, positive, few)) ∙ get_or-drop (i + 1) words k 0 ∙ ap (λ (n : ℕ). get_or words n 0) place in
     subst (λ (w : ℕ). is_led edition starts old (length words) w ≡ true) word (done.references k inside)
+
+-- what marking leaves, whatever the words below are
+pub young-marked : (edition : Edition) (words starts : List ℕ) (old : ℕ) (heads bits counts : List ℕ) → old ≤ length words → length words ≤ 2 ^ 31
+    → ((i : ℕ) → old ≤ i → bit heads i ≡ true → IsDoneAbove edition starts old words bits i)
+    → ((j : ℕ) → old ≤ j → bit bits j ≡ true → (i : ℕ) × (old ≤ i) × (bit heads i ≡ true) × IsWordOf edition words i j)
+    → ((i j : ℕ) → old ≤ i → bit heads i ≡ true → bit heads j ≡ true → i < j → i + size_of (header_at edition words i) ≤ j)
+    → ((j : ℕ) → j < old → bit bits j ≡ true) → AreOffsets bits counts → length heads ≡ length bits → length words ≤ 64 * length bits
+    → AreYoungTables edition words old heads bits counts
+young-marked edition words starts old heads bits counts within few done only apart ones offsets same room = record {
+  within = within;
+  few = few;
+  placed = λ i up set. (done i up set).placed;
+  led = λ i f up set from to.
+      let is = done i up set in
+      let fits = is.placed.within in
+      led-known edition starts old (length words) (length bits) (get_or words (i + f) 0) (young-led edition starts old words bits i f is from to) room (omega (arith, fits, room));
+  run = λ i j up set of. (done i up set).run j of;
+  only = only;
+  apart = apart;
+  ones = ones;
+  offsets = offsets;
+  same = same;
+  room = room;
+}
 
 module _ (edition : Edition) (before : List ℕ) (old : ℕ) (heads bits counts : List ℕ) (tables : AreYoungTables edition before old heads bits counts) where
   abbrev below : ℕ → ℕ

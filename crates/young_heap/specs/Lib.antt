@@ -1,7 +1,10 @@
 pub mod Young
 pub mod Stops
 pub mod Cards
+pub mod Listing
 pub mod Refusals
 pub mod Rows
 pub mod OldFaults
 pub mod Tables
+pub mod Dirty
+pub mod Aging

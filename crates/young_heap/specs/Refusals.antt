@@ -19,24 +19,24 @@ IsAstray edition words starts old word = is_led edition starts old (length words
 abbrev pub IsMet : Edition → List ℕ → List ℕ → ℕ → List ℕ → ℕ → Type 0
 IsMet edition words roots old fields i = IsReachedAbove edition old words (seeds words roots fields) i
 
--- the fault is one of these words, roots and fields
-abbrev pub IsYoungFaultOf : Edition → List ℕ → List ℕ → List ℕ → ℕ → List ℕ → SurveyFault → Type 0
-IsYoungFaultOf edition words roots starts old fields TooLarge = ⊥
-IsYoungFaultOf edition words roots starts old fields (BadRoot k) =
+-- the fault is one of these words, roots, fields, which are followed, and weak words of old objects, which are not
+abbrev pub IsYoungFaultOf : Edition → List ℕ → List ℕ → List ℕ → ℕ → List ℕ → List ℕ → SurveyFault → Type 0
+IsYoungFaultOf edition words roots starts old fields weaks TooLarge = ⊥
+IsYoungFaultOf edition words roots starts old fields weaks (BadRoot k) =
     (k < length roots) × IsAstray edition words starts old (slice_index roots k)
-IsYoungFaultOf edition words roots starts old fields (BadReference j) =
+IsYoungFaultOf edition words roots starts old fields weaks (BadReference j) =
     ((has fields j ≡ true) ⊎ ((i : ℕ) × IsMet edition words roots old fields i
     × (f : ℕ) × (f < refs_of (header_at edition words i)) × (j ≡ i + 1 + f)))
     × IsAstray edition words starts old (slice_index words j)
-IsYoungFaultOf edition words roots starts old fields (BadWeak j) =
-    (i : ℕ) × IsMet edition words roots old fields i × (f : ℕ) × (f < weak_of (header_at edition words i))
-    × (j ≡ i + 1 + refs_of (header_at edition words i) + f)
+IsYoungFaultOf edition words roots starts old fields weaks (BadWeak j) =
+    ((has weaks j ≡ true) ⊎ ((i : ℕ) × IsMet edition words roots old fields i
+    × (f : ℕ) × (f < weak_of (header_at edition words i)) × (j ≡ i + 1 + refs_of (header_at edition words i) + f)))
     × IsStray edition words (slice_index words j)
-IsYoungFaultOf edition words roots starts old fields (ObjectTooLong i) =
+IsYoungFaultOf edition words roots starts old fields weaks (ObjectTooLong i) =
     IsMet edition words roots old fields i × (most_object_words edition < size_of (header_at edition words i))
-IsYoungFaultOf edition words roots starts old fields (ObjectPastEnd i) =
+IsYoungFaultOf edition words roots starts old fields weaks (ObjectPastEnd i) =
     IsMet edition words roots old fields i × (length words < i + size_of (header_at edition words i))
-IsYoungFaultOf edition words roots starts old fields (Overlap i) =
+IsYoungFaultOf edition words roots starts old fields weaks (Overlap i) =
     IsMet edition words roots old fields i × (j : ℕ) × IsMet edition words roots old fields j × (j ≢ i)
     × (k : ℕ) × IsWordOf edition words i k × IsWordOf edition words j k
-IsYoungFaultOf edition words roots starts old fields OutOfMemory = Unit {0}
+IsYoungFaultOf edition words roots starts old fields weaks OutOfMemory = Unit {0}

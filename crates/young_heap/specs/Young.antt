@@ -11,7 +11,7 @@ use Rattle.reachability.specs.Queue.{has, is_address}
 use Rattle.stopped_heap.specs.Collecting.{IsCollected}
 use Rattle.stopped_heap.specs.Meeting.{AllLead}
 use Rattle.stopped_heap.specs.Reached.{IsWordOf}
-use Rattle.stopped_heap.specs.Surveys.{marks_of}
+use Rattle.stopped_heap.specs.Surveys.{marks_of, AreTables}
 
 -- whether i is the index of one of `count` words, and not below `old`
 abbrev pub is_above : ℕ → ℕ → ℕ → Bool
@@ -88,16 +88,19 @@ abbrev pub is_below_led : Edition → List ℕ → ℕ → ℕ → Bool
 is_below_led edition starts old =
     or_immediate edition (λ word. (word == 0) || is_address (λ i. nat_lt i old && bit starts i) word)
 
--- Of the old objects each reference that is none of the fields leads below, and so does each weak word; and the fields
--- are references of old objects.
-pub record AreRemembered (edition : Edition) (words starts : List ℕ) (old : ℕ) (fields : List ℕ) : Type 0 where
+-- Of the old objects each reference that is none of the fields leads below, and each weak word that is none of `weaks`;
+-- the fields are references of old objects, and `weaks` are weak words of theirs.
+pub record AreRemembered (edition : Edition) (words starts : List ℕ) (old : ℕ) (fields weaks : List ℕ) : Type 0 where
   pub clean : (i f : ℕ) → i < old → bit starts i ≡ true → 1 ≤ f → f ≤ refs_of (header_at edition words i)
       → has fields (i + f) ≡ false → is_below_led edition starts old (slice_index words (i + f)) ≡ true
   pub weak : (i f : ℕ) → i < old → bit starts i ≡ true → refs_of (header_at edition words i) < f
       → f ≤ refs_of (header_at edition words i) + weak_of (header_at edition words i)
-      → is_below_led edition starts old (slice_index words (i + f)) ≡ true
+      → has weaks (i + f) ≡ false → is_below_led edition starts old (slice_index words (i + f)) ≡ true
   pub fields_are : (j : ℕ) → has fields j ≡ true
       → (i : ℕ) × (i < old) × (bit starts i ≡ true) × (i < j) × (j ≤ i + refs_of (header_at edition words i))
+  pub weaks_are : (j : ℕ) → has weaks j ≡ true
+      → (i : ℕ) × (i < old) × (bit starts i ≡ true) × (i + refs_of (header_at edition words i) < j)
+      × (j ≤ i + refs_of (header_at edition words i) + weak_of (header_at edition words i))
 
 -- What marking left above index `old`, whatever the words below are: the marked objects above are placed and do not
 -- overlap; their references lead into the bits; `bits` has their words, and all words below; `counts` are its offsets.
@@ -131,3 +134,11 @@ HasCollectedYoung edition words roots starts old fields count new_roots after =
     (heads : List ℕ) × AreKeptYoung edition words roots starts old fields heads
     × IsCollected (record { edition = edition; words = words; marks = marks_of heads; roots = roots })
     count new_roots words after
+
+-- It was, and in `heads` are the marks, in `bits` the words of the marked objects, and in `counts` the offsets.
+pub record AreYoungMarks (edition : Edition) (words roots starts : List ℕ) (old : ℕ) (fields heads bits counts : List ℕ)
+    (count : ℕ) (new_roots after : List ℕ) : Type 0 where
+  pub kept : AreKeptYoung edition words roots starts old fields heads
+  pub is : IsCollected (record { edition = edition; words = words; marks = marks_of heads; roots = roots })
+      count new_roots words after
+  pub tables : AreTables edition words heads bits counts

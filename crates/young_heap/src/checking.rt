@@ -93,26 +93,27 @@ fn is_marked(cards: &[u8], j: usize) -> bool
     j / CARD < cards.len() && cards[j / CARD] != 0
 }
 
-// Err with the number of the first reference of this object that stands on a clean card and does not lead below.
-fn check_references(
+// Err with the number of the first of the words of this object behind its header, up to the one with number `last`,
+// that stands on a clean card and does not lead below.
+fn check_words(
     edition: Edition,
     old: usize,
     words: &[u64],
     starts: &[u64],
     cards: &[u8],
     i: usize,
-    refs: usize,
+    last: usize,
 ) -> Result<(), usize>
     requires few { old ≤ 2 ^ 31 }
     requires known { old ≤ 64 * length starts.now }
-    requires inside { i + refs < length words.now }
-    ensures all { OnOk result ((f : ℕ) → 1 ≤ f → f ≤ refs → is_dirty cards.now (i + f) ≡ false
+    requires inside { i + last < length words.now }
+    ensures all { OnOk result ((f : ℕ) → 1 ≤ f → f ≤ last → is_dirty cards.now (i + f) ≡ false
         → is_below_led edition starts.now old (slice_index words.now (i + f)) ≡ true) }
-    ensures number { IfErr result (λ f. (1 ≤ f) × (f ≤ refs)) }
+    ensures number { IfErr result (λ f. (1 ≤ f) × (f ≤ last)) }
     ensures clean { IfErr result (λ f. is_dirty cards.now (i + f) ≡ false) }
     ensures above { IfErr result (λ f. is_below_led edition starts.now old (slice_index words.now (i + f)) ≡ false) }
 {
-    for f in 1..refs + 1 {
+    for f in 1..last + 1 {
         if !is_marked(cards, i + f) && !leads_below(edition, starts, old, words[i + f]) {
             return Err(f);
         }
@@ -120,36 +121,8 @@ fn check_references(
     Ok(())
 }
 
-// Err with the number of the first of the words with the numbers from `first` up to `end` of this object that does not
-// lead below.
-fn check_weak(
-    edition: Edition,
-    old: usize,
-    words: &[u64],
-    starts: &[u64],
-    i: usize,
-    first: usize,
-    end: usize,
-) -> Result<(), usize>
-    requires few { old ≤ 2 ^ 31 }
-    requires known { old ≤ 64 * length starts.now }
-    requires order { first ≤ end }
-    requires inside { i + end ≤ length words.now }
-    ensures all { OnOk result ((f : ℕ) → first ≤ f → f < end
-        → is_below_led edition starts.now old (slice_index words.now (i + f)) ≡ true) }
-    ensures number { IfErr result (λ f. (first ≤ f) × (f < end)) }
-    ensures above { IfErr result (λ f. is_below_led edition starts.now old (slice_index words.now (i + f)) ≡ false) }
-{
-    for f in first..end {
-        if !leads_below(edition, starts, old, words[i + f]) {
-            return Err(f);
-        }
-    }
-    Ok(())
-}
-
-/// Whether the words below index `old` are a row of objects that start at these bits, of which each reference on a
-/// clean card and each weak word leads below. Err with the first thing that is not so; the row is looked at first.
+/// Whether the words below index `old` are a row of objects that start at these bits, of which each reference and each
+/// weak word on a clean card leads below. Err with the first thing that is not so; the row is looked at first.
 pub(crate) fn check_old(
     edition: Edition,
     old: usize,
@@ -170,12 +143,9 @@ pub(crate) fn check_old(
     let mut i = 0;
     while i < old {
         let shape = shape_of(edition, words[i]);
-        if let Err(f) = check_references(edition, old, words, starts, cards, i, shape.refs) {
+        let last = shape.refs + shape.weak;
+        if let Err(f) = check_words(edition, old, words, starts, cards, i, last) {
             return Err(OldFault::LeadsAbove((i + f) as u64));
-        }
-        let weak = 1 + shape.refs;
-        if let Err(f) = check_weak(edition, old, words, starts, i, weak, weak + shape.weak) {
-            return Err(OldFault::WeakAbove((i + f) as u64));
         }
         i += shape.size;
     }

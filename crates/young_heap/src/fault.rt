@@ -15,9 +15,14 @@ pub enum YoungFault {
     /// There are fewer words than these, the watermark.
     #[error("there are fewer words than the watermark, {0}")]
     FewWords(u64),
-    /// There are fewer cards than these, one for each 64 words below the watermark.
+    /// There are fewer cards than these: one for each 64 words below the watermark, or, where the cards are made anew,
+    /// one for each 64 words that the last collection left.
     #[error("{0} cards are wanted")]
     FewCards(u64),
+    /// The word at this index is listed, and is no reference and no weak word of an old object. Maybe it is not below
+    /// the watermark, or is a header or a data word.
+    #[error("no old object has a reference or a weak word at {0}")]
+    NotAField(u64),
     /// A root, a remembered word or an object that is met is refused. It is never `TooLarge` or `OutOfMemory`.
     #[error("{0}")]
     Survey(SurveyFault),
@@ -31,11 +36,8 @@ pub enum OldFault {
     /// does not go on there, so a header was changed, or the words were moved or are fewer.
     #[error("no old object is at {0}")]
     NotARow(u64),
-    /// The word at this index is a reference of an old object on a clean card, and leads to no old object: its store
-    /// marked no card.
-    #[error("the reference at {0} leads above from a clean card")]
+    /// The word at this index is a reference or a weak word of an old object on a clean card, and leads to no old
+    /// object: its store marked no card.
+    #[error("the word at {0} leads above from a clean card")]
     LeadsAbove(u64),
-    /// The word at this index is a weak word of an old object, and leads to no old object.
-    #[error("the weak word at {0} leads above")]
-    WeakAbove(u64),
 }

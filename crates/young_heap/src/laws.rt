@@ -1,5 +1,5 @@
 //! Laws of young collections. Each is the contract of a function that does nothing.
-ghost use Rattle.std.specs.Prelude.{◌≡◌, List, ℕ, ◌<◌, ◌≤◌, [], All, length, true};
+ghost use Rattle.std.specs.Prelude.{◌≡◌, List, ℕ, ◌<◌, ◌≤◌, [], All, Bool, length, true};
 ghost use Rattle.heap_layout.specs.declared.edition.Edition.{Edition};
 ghost use Rattle.heap_layout.specs.Bits.{bit};
 ghost use Rattle.heap_layout.specs.Heap.{Heap};
@@ -7,15 +7,16 @@ ghost use Rattle.stopped_heap.specs.Collecting.{HasCollected, IsCollected};
 ghost use Rattle.stopped_heap.specs.Reached.{IsSound};
 ghost use Rattle.stopped_heap.specs.Settled.{collected, places};
 ghost use Rattle.stopped_heap.specs.Surveys.{marks_of};
-ghost use Rattle.young_heap.specs.Cards.{AreCleanCards, AreGathered, AreStored};
+ghost use Rattle.young_heap.specs.Cards.{AreGathered, AreGatheredWeak, AreStored, AreUnasked};
 ghost use Rattle.young_heap.specs.Rows.{IsInRow};
 ghost use Rattle.young_heap.specs.Young.{AreKeptBelow, AreOld, AreRemembered, HasCollectedYoung};
 
-/// Before the first collection nothing is old: the premise holds with watermark 0, whatever the words, tables and
-/// cards.
+/// Before the first collection nothing is old: the premise holds with watermark 0, whatever the words and tables, and
+/// whatever is asked for: the words on dirty cards, those that are listed, or none.
 pub fn nothing_is_old()
     ensures row { (edition : Edition) (words starts : List ℕ) → AreOld edition words starts 0 }
-    ensures clean { (edition : Edition) (words starts cards : List ℕ) → AreCleanCards edition words starts 0 cards }
+    ensures clean { (edition : Edition) (words starts : List ℕ) (asked : ℕ → Bool)
+        → AreUnasked edition words starts 0 asked }
 {}
 
 /// A young collection with watermark 0 is a collection of all: what lives is exactly what the roots reach.
@@ -26,22 +27,22 @@ pub fn all_is_collected()
         → HasCollected edition words roots live new_roots words after }
 {}
 
-/// If no field has to be remembered, as after a collection, then each card may be clean.
+/// If no word has to be remembered, as after a collection, then each card may be clean, and nothing need be listed.
 pub fn remembered_is_clean()
-    ensures { (edition : Edition) (words starts : List ℕ) (old : ℕ) (cards : List ℕ)
-        → AreRemembered edition words starts old []
-        → AreCleanCards edition words starts old cards }
+    ensures { (edition : Edition) (words starts : List ℕ) (old : ℕ) (asked : ℕ → Bool)
+        → AreRemembered edition words starts old [] []
+        → AreUnasked edition words starts old asked }
 {}
 
-/// Mutators that mark the card of each reference that they store into an old object, and change no header there and
-/// store no weak word there that leads above, keep the premise of the next young collection.
+/// Mutators that mark the card of each reference and each weak word that they store into an old object, or list it, and
+/// change no header there, keep the premise of the next young collection.
 pub fn stored_is_clean()
-    ensures row { (edition : Edition) (words starts : List ℕ) (old : ℕ) (cards after marked : List ℕ)
-        → AreStored edition words starts old cards after marked
+    ensures row { (edition : Edition) (words starts : List ℕ) (old : ℕ) (asked : ℕ → Bool) (after : List ℕ)
+        (now : ℕ → Bool) → AreStored edition words starts old asked after now
         → AreOld edition words starts old → AreOld edition after starts old }
-    ensures clean { (edition : Edition) (words starts : List ℕ) (old : ℕ) (cards after marked : List ℕ)
-        → AreStored edition words starts old cards after marked
-        → AreCleanCards edition words starts old cards → AreCleanCards edition after starts old marked }
+    ensures clean { (edition : Edition) (words starts : List ℕ) (old : ℕ) (asked : ℕ → Bool) (after : List ℕ)
+        (now : ℕ → Bool) → AreStored edition words starts old asked after now
+        → AreUnasked edition words starts old asked → AreUnasked edition after starts old now }
 {}
 
 /// What a collection leaves, a young one or one of all, is a row of objects that lead to one another alone, if `starts`
@@ -51,15 +52,17 @@ pub fn collected_is_old()
     ensures row { (heap : Heap) (starts : List ℕ) → IsSound heap → marks_of starts ≡ places heap
         → AreOld heap.edition (collected heap).words starts (length (collected heap).words) }
     ensures clean { (heap : Heap) (starts : List ℕ) → IsSound heap → marks_of starts ≡ places heap
-        → AreRemembered heap.edition (collected heap).words starts (length (collected heap).words) [] }
+        → AreRemembered heap.edition (collected heap).words starts (length (collected heap).words) [] [] }
 {}
 
-/// If references on clean cards lead below, what was gathered from the dirty ones is all that has to be remembered.
+/// If what is not asked for leads below, as references and weak words on clean cards do, then what was gathered from
+/// the rest is all that has to be remembered.
 pub fn gathered_is_remembered()
-    ensures { (edition : Edition) (words starts : List ℕ) (old : ℕ) (cards fields : List ℕ)
-        → AreCleanCards edition words starts old cards
-        → AreGathered edition words starts old cards old fields → AreOld edition words starts old
-        → AreRemembered edition words starts old fields }
+    ensures { (edition : Edition) (words starts : List ℕ) (old : ℕ) (asked : ℕ → Bool) (fields weaks : List ℕ)
+        → AreUnasked edition words starts old asked
+        → AreGathered edition words starts old asked old fields
+        → AreGatheredWeak edition words starts old asked old weaks → AreOld edition words starts old
+        → AreRemembered edition words starts old fields weaks }
 {}
 
 /// After a young collection, and after `promote`, the premise of the next one holds, with the end of the live words for
@@ -79,5 +82,5 @@ pub fn promoted_is_old()
         → AreOld edition words heads old → AreKeptBelow old heads next
         → ((j : ℕ) → old ≤ j → bit next j ≡ true → IsInRow edition after total old j)
         → ((j : ℕ) → IsInRow edition after total old j → bit next j ≡ true)
-        → AreRemembered edition after next total [] }
+        → AreRemembered edition after next total [] [] }
 {}

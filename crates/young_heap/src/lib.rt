@@ -15,6 +15,10 @@
 //! - `OldTables::collect_all` collects all, and makes what lives old.
 //! - `OldTables::collect_young` collects what is young, by cards, and makes what lives old. It requires nothing: what
 //!   it believes of the mutator is a premise of what it says of the result.
+//! - `OldTables::collect_young_by` does so by a list of words into which the mutator stored.
+//! - `OldTables::collect_aging` collects as `collect_young` does, but an object becomes old only when it has survived
+//!   two collections: what was allocated since the last one stays young. It makes the cards anew; just those are dirty
+//!   that have a word of an old object that leads above.
 //! - `OldTables::check` says whether the mutator kept that, for debug builds.
 //!
 //! The parts, over slices that the caller keeps right:
@@ -25,8 +29,7 @@
 //! - `are_old` looks whether the words below a watermark are what a collection left.
 //!
 //! A collection leaves the premise of the next one. What a young one believes of mutators is that they change no header
-//! of an old object, and mark the card of each reference that they store there; a weak word of an old object may not
-//! lead above.
+//! of an old object, and mark the card of each reference and each weak word that they store there, or list the word.
 //!
 //! The modules, in the order in which to read them:
 //!
@@ -38,18 +41,25 @@
 //! - `remembering`: these words, from cards.
 //! - `promoting`: the tables afterwards.
 //! - `young`: the whole collection.
+//! - `listing`: the same by a list of words.
+//! - `dirtying`: cards that are made anew.
+//! - `aging`: a collection after which what was allocated since the last one is young still.
 //! - `checking`: whether what it believes is so.
-//! - `fault`, `old_tables`: the tables with a watermark, and their calls.
+//! - `fault`, `old_tables`, `aging_tables`: the tables with a watermark, and their calls.
 //! - `laws`: what follows of the clauses.
 #![tactic(auto)]
 
+mod aging;
+mod aging_tables;
 mod bits;
 mod checking;
 mod collecting;
+mod dirtying;
 mod fault;
 mod finding;
 mod forwarding;
 mod laws;
+mod listing;
 mod marking;
 mod meeting;
 mod old_tables;

@@ -96,7 +96,7 @@ pub(crate) fn mark_above(
         → i + size_of (header_at edition words.now i) ≤ j) }
     ensures roots { OnOk result (AllLed edition heads.old old (length words.now) roots.now) }
     ensures led { OnOk result (AllLed edition heads.old old (length words.now) (words_at words.now fields.now)) }
-    ensures fault { IfErr result (IsYoungFaultOf edition words.now roots.now heads.old old fields.now) }
+    ensures fault { IfErr result (IsYoungFaultOf edition words.now roots.now heads.old old fields.now []) }
     ensures short { IfErr result (λ fault. fault ≡ survey.OutOfMemory → vec_capacity queue.old < length words.now) }
     ensures heads_below { AreKeptBelow old heads.old heads.new }
     ensures bits_below { AreKeptBelow old bits.old bits.new }

@@ -1,6 +1,6 @@
 //! The queue of the objects above the old ones that were met.
-ghost use Rattle.std.specs.Prelude.{◌≡◌, ◌*◌, ◌^◌, ◌<◌, ◌≤◌, false, true, All, fold, length, slice_index, vec_capacity, IfErr, OnOk};
-ghost use Rattle.reachability.specs.Queue.{after_word};
+ghost use Rattle.std.specs.Prelude.{◌≡◌, ℕ, ◌*◌, ◌^◌, ◌<◌, ◌≤◌, false, true, All, fold, length, slice_index, vec_capacity, IfErr, OnOk};
+ghost use Rattle.reachability.specs.Queue.{after_word, has};
 ghost use Rattle.stopped_heap.specs.Meeting.{AllLead, AreOnce};
 ghost use Rattle.stopped_heap.specs.Reached.{is_within};
 ghost use Rattle.young_heap.specs.Young.{is_above, is_led, words_at, AllLed, AreMetAbove, AreKeptBelow};
@@ -149,6 +149,25 @@ pub(crate) fn check_leads(edition: Edition, count: usize, words: &[u64]) -> Resu
     for k in 0..words.len() {
         if !is_leading(edition, count, words[k]) {
             return Err(k);
+        }
+    }
+    Ok(())
+}
+
+/// Err with the first of these indices whose word is neither null nor the address of one of the words, nor an
+/// immediate.
+pub(crate) fn check_at(edition: Edition, words: &[u64], weaks: &[u32]) -> Result<(), usize>
+    requires few { length words.now ≤ 2 ^ 31 }
+    requires below { All (λ j. j < length words.now) weaks.now }
+    ensures all { OnOk result ((n : ℕ) → n < length weaks.now
+        → is_within edition (length words.now) (slice_index words.now (slice_index weaks.now n)) ≡ true) }
+    ensures index { IfErr result (λ j. has weaks.now j ≡ true) }
+    ensures stray { IfErr result (λ j. is_within edition (length words.now) (slice_index words.now j) ≡ false) }
+{
+    for n in 0..weaks.len() {
+        let j = weaks[n] as usize;
+        if !is_leading(edition, words.len(), words[j]) {
+            return Err(j);
         }
     }
     Ok(())

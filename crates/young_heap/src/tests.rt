@@ -1,4 +1,6 @@
 //! Small heaps, with the words that a person reads off.
+mod surviving;
+
 ghost use Rattle.std.specs.Prelude.{◌≡◌, ◌+◌, ◌≤◌, length};
 
 use crate::{CARD, OldFault, OldTables, YoungFault, are_old, collect_above, promote, remember};
@@ -129,17 +131,109 @@ fn a_check_names_what_the_mutator_left_out(rt: HostRuntime) {
     }
 }
 
+// The same five, in edition two; the second one has a weak word in place of its reference.
+fn five_with_a_weak_word() -> [u64; 15] {
+    let mut words = five();
+    for k in 0..5 {
+        words[3 * k] = 1 << 16 | 1;
+    }
+    words[3] = 1 << 32 | 1 << 16;
+    words
+}
+
 #[test]
 fn a_check_names_a_weak_word_that_leads_above(rt: HostRuntime) {
-    let mut words = five();
-    // Headers of edition two: a reference and a data word; a weak word and a data word.
-    words[0] = 1 << 16 | 1;
-    words[3] = 1 << 32 | 1 << 16;
+    let words = five_with_a_weak_word();
     if let Some(tables) = six_are_old(rt.alloc()) {
+        assert_eq!(rt; tables.check(Edition::Two, &words, &[1]), Ok(()));
         assert_eq!(rt;
-            tables.check(Edition::Two, &words, &[1]),
-            Err(OldFault::WeakAbove(4))
+            tables.check(Edition::Two, &words, &[0]),
+            Err(OldFault::LeadsAbove(4))
         );
+    }
+}
+
+#[test]
+fn an_old_weak_word_follows_its_object(rt: HostRuntime) {
+    let mut words = five_with_a_weak_word();
+    let mut roots = [F + 12];
+    if let Some(mut tables) = six_are_old(rt.alloc()) {
+        let young = tables.collect_young(Edition::Two, &mut words, &[1], &mut roots);
+        assert_eq!(rt; young, Ok(9));
+        assert_eq!(rt; words[4], F + 6);
+        assert_eq!(rt; roots, [F + 6]);
+    }
+}
+
+#[test]
+fn an_old_weak_word_keeps_nothing_alive(rt: HostRuntime) {
+    let mut words = five_with_a_weak_word();
+    let mut wanted = words;
+    let mut roots = [F + 9];
+    if let Some(mut tables) = six_are_old(rt.alloc()) {
+        // What the word leads to dies; the two that lead to each other stay where they are.
+        let young = tables.collect_young(Edition::Two, &mut words, &[1], &mut roots);
+        wanted[4] = 0;
+        assert_eq!(rt; young, Ok(12));
+        assert_eq!(rt; words, wanted);
+        assert_eq!(rt; roots, [F + 9]);
+    }
+}
+
+#[test]
+fn a_list_in_any_order_names_what_was_stored(rt: HostRuntime) {
+    let mut words = five();
+    words[1] = F + 9;
+    let mut list = [4u64, 1, 4];
+    let mut roots = [F];
+    if let Some(mut tables) = six_are_old(rt.alloc()) {
+        // The old one at 0 leads to the one at 9, and that to the one at 6: all five live.
+        let young = tables.collect_young_by(Edition::One, &mut words, &mut list, &mut roots);
+        assert_eq!(rt; young, Ok(15));
+        assert_eq!(rt; list, [1, 4, 4]);
+        assert_eq!(rt; words[1], F + 9);
+        assert_eq!(rt; words[4], F + 12);
+    }
+    let mut words = five_with_a_weak_word();
+    if let Some(mut tables) = six_are_old(rt.alloc()) {
+        // The listed word is weak, and what it leads to dies with all that is young.
+        let young = tables.collect_young_by(Edition::Two, &mut words, &mut [4], &mut [F]);
+        assert_eq!(rt; young, Ok(6));
+        assert_eq!(rt; words[4], 0);
+    }
+}
+
+#[test]
+fn what_is_listed_has_to_be_a_reference_or_a_weak_word(rt: HostRuntime) {
+    let mut words = five();
+    let before = words;
+    let mut roots = [F + 3];
+    if let Some(mut tables) = six_are_old(rt.alloc()) {
+        // A word that is not old, a data word, and a header.
+        let young = tables.collect_young_by(Edition::One, &mut words, &mut [7, 4], &mut roots);
+        assert_eq!(rt; young, Err(YoungFault::NotAField(7)));
+        let data = tables.collect_young_by(Edition::One, &mut words, &mut [4, 5], &mut roots);
+        assert_eq!(rt; data, Err(YoungFault::NotAField(5)));
+        let header = tables.collect_young_by(Edition::One, &mut words, &mut [3, 4], &mut roots);
+        assert_eq!(rt; header, Err(YoungFault::NotAField(3)));
+        assert_eq!(rt; words, before);
+        assert_eq!(rt; roots, [F + 3]);
+        let good = tables.collect_young_by(Edition::One, &mut words, &mut [4], &mut roots);
+        assert_eq!(rt; good, Ok(9));
+        assert_eq!(rt; words[4], F + 6);
+    }
+}
+
+#[test]
+fn an_old_weak_word_that_leads_to_no_word_is_refused(rt: HostRuntime) {
+    let mut words = five_with_a_weak_word();
+    words[4] = F + 15;
+    let before = words;
+    if let Some(mut tables) = six_are_old(rt.alloc()) {
+        let young = tables.collect_young(Edition::Two, &mut words, &[1], &mut []);
+        assert_eq!(rt; young, Err(YoungFault::Survey(SurveyFault::BadWeak(4))));
+        assert_eq!(rt; words, before);
+        assert_eq!(rt; tables.old(), 6);
     }
 }
 
@@ -164,6 +258,7 @@ fn what_no_card_says_may_be_remembered_otherwise(rt: HostRuntime) {
         Edition::One,
         6,
         &mut words,
+        &[],
         &[],
         &mut roots,
         &mut heads,
@@ -193,15 +288,18 @@ fn just_what_leads_above_from_dirty_cards_is_remembered(rt: HostRuntime) {
     let starts = [0x5555_5555_5555_5555u64, 0x5555_5555_5555_5555];
     assert!(rt; are_old(Edition::One, &words, &starts, 128));
     let mut fields: Vec<u32> = Vec::new(rt.alloc());
-    if remember(Edition::One, 128, &words, &starts, &[1, 1], &mut fields).is_ok() {
+    let mut weaks: Vec<u32> = Vec::new(rt.alloc());
+    let e = Edition::One;
+    if remember(e, 128, &words, &starts, &[1, 1], &mut fields, &mut weaks).is_ok() {
         assert_eq!(rt; fields.as_slice(), [3u32, 101].as_slice());
     }
-    if remember(Edition::One, 128, &words, &starts, &[0, 255], &mut fields).is_ok() {
+    if remember(e, 128, &words, &starts, &[0, 255], &mut fields, &mut weaks).is_ok() {
         assert_eq!(rt; fields.as_slice(), [101u32].as_slice());
     }
-    if remember(Edition::One, 128, &words, &starts, &[0, 0], &mut fields).is_ok() {
+    if remember(e, 128, &words, &starts, &[0, 0], &mut fields, &mut weaks).is_ok() {
         assert_eq!(rt; fields.len(), 0);
     }
+    assert_eq!(rt; weaks.len(), 0);
 }
 
 #[test]

@@ -1,4 +1,4 @@
-use Rattle.std.proofs.Common.{◌≡◌, ℕ, ◌+◌, ◌<◌, ◌≤◌, List, [], true, get_or, inl, inr, sym, ap, subst, ◌∙◌, arith}
+use Rattle.std.proofs.Common.{◌≡◌, ℕ, ◌+◌, ◌<◌, ◌≤◌, List, true, get_or, inl, inr, sym, ap, subst, ◌∙◌, arith}
 use Rattle.std.proofs.lemmas.Bool.{cases_lt, cases_order}
 use Rattle.heap_layout.specs.declared.edition.Edition.{Edition}
 use Rattle.heap_layout.specs.Bits.{bit}
@@ -32,26 +32,11 @@ returns-in-Err-clause-fault c =
     let starts = c.args.starts.now in
     let found = c.in-Err.ensures in
     let lt = c.loop-i-test.true in
-    let refs = c.shape_of-shape.ensures.refs in (
-      whole e words starts c.row_end-end.result c.args.old c.row_end-end.ensures.row c.row_end-end.ensures.within c.if-end-old.false,
-      record {
-        reference = (c.loop-i.i, lt, c.loop-i.invariant.here lt, omega (arith, found.number.0), omega (arith, found.number.1, refs));
-        clean = found.clean;
-        above = found.above;
-      },
-    )
-
-pub returns-in-Err-check_weak-clause-fault : goal.returns-in-Err-check_weak-clause-fault
-returns-in-Err-check_weak-clause-fault c =
-    let e = c.args.edition in
-    let words = c.args.words.now in
-    let starts = c.args.starts.now in
-    let found = c.in-Err-check_weak.ensures in
-    let lt = c.loop-i-test.true in
     let shape = c.shape_of-shape.ensures in (
       whole e words starts c.row_end-end.result c.args.old c.row_end-end.ensures.row c.row_end-end.ensures.within c.if-end-old.false,
       record {
-        weak = (c.loop-i.i, lt, c.loop-i.invariant.here lt, omega (arith, found.number.0, shape.refs), omega (arith, found.number.1, shape.refs, shape.weak));
+        word = (c.loop-i.i, lt, c.loop-i.invariant.here lt, omega (arith, found.number.0), omega (arith, found.number.1, shape.refs, shape.weak));
+        clean = found.clean;
         above = found.above;
       },
     )
@@ -73,23 +58,23 @@ loop-i-preserved c =
     let end : i + c.shape_of-shape.result.size ≡ i + size_of (header_at e words i) = omega (arith, shape.size) in
     record {
       within = omega (arith, end, inside);
-      here = λ more. ap (bit starts) end ∙ start-behind e words starts old [] row i lt set (omega (arith, more, end));
+      here = λ more. ap (bit starts) end ∙ start-behind e words starts old row i lt set (omega (arith, more, end));
       clean = λ k f low there from to clean. elim (cases_lt k i) [
         | inl before ↦ is.clean k f before there from to clean
         | inr at ↦
             let same = only e words starts old row i k set there at (omega (arith, low, end)) (omega (arith, low, end, inside)) in
             let refs = ap (λ (n : ℕ). refs_of (header_at e words n)) same in
             subst (λ (n : ℕ). is_below_led e starts old (get_or words (n + f) 0) ≡ true) (sym same)
-            (c.in_default.ensures.all f from (omega (arith, to, refs, shape.refs)) (ap (λ (n : ℕ). is_dirty cards (n + f)) (sym same) ∙ clean))
+            (c.in_default.ensures.all f from (omega (arith, to, refs, shape.refs, shape.weak)) (ap (λ (n : ℕ). is_dirty cards (n + f)) (sym same) ∙ clean))
       ];
-      weak = λ k f low there from to. elim (cases_lt k i) [
-        | inl before ↦ is.weak k f before there from to
+      weak = λ k f low there from to clean. elim (cases_lt k i) [
+        | inl before ↦ is.weak k f before there from to clean
         | inr at ↦
             let same = only e words starts old row i k set there at (omega (arith, low, end)) (omega (arith, low, end, inside)) in
             let refs = ap (λ (n : ℕ). refs_of (header_at e words n)) same in
             let weak = ap (λ (n : ℕ). weak_of (header_at e words n)) same in
             subst (λ (n : ℕ). is_below_led e starts old (get_or words (n + f) 0) ≡ true) (sym same)
-            (c.in_default-check_weak.ensures.all f (omega (arith, from, refs, shape.refs)) (omega (arith, to, refs, weak, shape.refs, shape.weak)))
+            (c.in_default.ensures.all f (omega (arith, from)) (omega (arith, to, refs, weak, shape.refs, shape.weak)) (ap (λ (n : ℕ). is_dirty cards (n + f)) (sym same) ∙ clean))
       ];
     }
 
@@ -98,5 +83,5 @@ returns-clause-clean c =
     let is = c.loop-i.invariant in
     record {
       clean = λ i f low set from to clean. is.clean i f (omega (arith, low, c.loop-i-test.false)) set from to clean;
-      weak = λ i f low set from to. is.weak i f (omega (arith, low, c.loop-i-test.false)) set from to;
+      weak = λ i f low set from to clean. is.weak i f (omega (arith, low, c.loop-i-test.false)) set from to clean;
     }

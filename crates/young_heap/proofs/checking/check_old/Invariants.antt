@@ -15,7 +15,7 @@ invariant-loop-i l = record {
       → is_below_led l.edition l.starts l.old (get_or l.words (i + f) 0) ≡ true;
   weak : (i f : ℕ) → i < l.i → bit l.starts i ≡ true → refs_of (header_at l.edition l.words i) < f
       → f ≤ refs_of (header_at l.edition l.words i) + weak_of (header_at l.edition l.words i)
-      → is_below_led l.edition l.starts l.old (get_or l.words (i + f) 0) ≡ true;
+      → is_dirty l.cards (i + f) ≡ false → is_below_led l.edition l.starts l.old (get_or l.words (i + f) 0) ≡ true;
 }
 
 abbrev pub decreases-loop-i : goal.decreases-loop-i

@@ -175,8 +175,8 @@ returns-then-not-take_run-clause-fault c =
     let at = c.if-not-take_run.ensures.taken refl in
     let high = (above-at e old words from_all queue next next c.loop-next.invariant.followed within).above in
     let of : IsWordOf e words i at.0 = (at.1, omega (arith, at.2, size)) in
-    subst (λ (n : ℕ). IsYoungFaultOf e words roots starts old fields (Overlap n)) here
-    (overlapping e words roots starts old fields queue next c.loop-next.heads c.loop-next.bits at.0 c.loop-next.invariant.followed c.loop-next.invariant.spread within
+    subst (λ (n : ℕ). IsYoungFaultOf e words roots starts old fields [] (Overlap n)) here
+    (overlapping e words roots starts old fields [] queue next c.loop-next.heads c.loop-next.bits at.0 c.loop-next.invariant.followed c.loop-next.invariant.spread within
     (omega (arith, high, here, at.1)) (subst (λ (n : ℕ). IsWordOf e words n at.0) (sym here) of) at.3)
 
 pub returns-in-Err-Stray-meet_all_above-clause-fault : goal.returns-in-Err-Stray-meet_all_above-clause-fault
@@ -196,7 +196,7 @@ returns-in-Err-Stray-meet_all_above-clause-fault c =
     let reached : IsMet e words roots old fields i = subst (IsMet e words roots old fields) here (reached-at e old words from_all queue next next c.loop-next.invariant.followed within) in
     let stop = rw c.in-Err-Stray-meet_all_above.field-0-is at c.in-Err-Stray-meet_all_above.ensures.stop in
     rw c.in-Err-Stray-meet_all_above.field-0-is
-    (bad-reference e words roots starts old fields c.references-references.result.now i _ reached c.references-references.ensures stop.0
+    (bad-reference e words roots starts old fields [] c.references-references.result.now i _ reached c.references-references.ensures stop.0
     (sym (led-same e starts c.loop-next.heads old (length words) _ c.loop-next.invariant.heads_below) ∙ stop.1))
 
 pub returns-in-Err-clause-fault : goal.returns-in-Err-clause-fault
@@ -214,7 +214,7 @@ returns-in-Err-clause-fault c =
     let within : next < length queue = omega arith in
     let here : get_or queue next 0 ≡ i = get_or_default queue next 0 i within ∙ sym c.index.ensures in
     let reached : IsMet e words roots old fields i = subst (IsMet e words roots old fields) here (reached-at e old words from_all queue next next c.loop-next.invariant.followed within) in
-    bad-weak e words roots starts old fields c.weak_words-weak.result.now i c.shape_of-shape.result.refs _ reached c.shape_of-shape.ensures.refs c.weak_words-weak.ensures
+    bad-weak e words roots starts old fields [] c.weak_words-weak.result.now i c.shape_of-shape.result.refs _ reached c.shape_of-shape.ensures.refs c.weak_words-weak.ensures
     c.in-Err.ensures.inside c.in-Err.ensures.stray
 
 pub returns-then-not-take_run-clause-bits_below : goal.returns-then-not-take_run-clause-bits_below

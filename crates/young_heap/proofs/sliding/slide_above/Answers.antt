@@ -11,6 +11,11 @@ use Rattle.young_heap.proofs.sliding.slide_above.Goals as goal
 pub settle_fields-requires-clause-below : goal.settle_fields-requires-clause-below
 settle_fields-requires-clause-below c = λ k d lt. (let low = c.requires.fields.below k d lt in omega (arith, low, c.requires.tables.within))
 
+pub settle_weaks-requires-clause-below : goal.settle_weaks-requires-clause-below
+settle_weaks-requires-clause-below c = λ k d lt.
+    let low = c.requires.weaks.below k d lt in
+    omega (arith, low, c.requires.tables.within, c.settle_fields.ensures.length)
+
 pub loop-place-init : goal.loop-place-init
 loop-place-init c =
     let e = c.args.edition in
@@ -18,15 +23,21 @@ loop-place-init c =
     let heads = c.args.heads.now in
     let bits = c.args.bits.now in
     let counts = c.args.counts.now in
+    let fields = c.args.fields.now in
+    let weaks = c.args.weaks.now in
+    let middle = c.settle_fields.new.words in
+    let new = c.settle_weaks.new.words in
     let done = c.settle_fields.ensures in
+    let weak_done = c.settle_weaks.ensures in
+    let long = weak_done.length ∙ done.length in
     record {
-      safe = at-first e words c.args.old heads bits counts c.requires.tables c.settle_fields.new.words
-          (λ k above. done.others k (no-field-above c.args.old c.args.fields.now c.requires.fields k above)) done.length;
+      safe = at-first e words c.args.old heads bits counts c.requires.tables new
+          (λ k above. weak_done.others k (no-field-above c.args.old weaks c.requires.weaks k above) ∙ done.others k (no-field-above c.args.old fields c.requires.fields k above)) long;
       down = λ tables old_are remembered.
-          down-from e c.args.old words heads bits counts c.settle_fields.new.words tables old_are
-          (old-settled e c.args.old words heads bits counts c.args.fields.now tables old_are remembered c.requires.fields c.requires.tables.ones
-          c.settle_fields.new.words done.length done.settled done.others);
-      low = λ j lt none. done.others j none;
+          down-from e c.args.old words heads bits counts new tables old_are
+          (old-settled e c.args.old words heads bits counts fields weaks tables old_are remembered c.requires.fields c.requires.weaks c.requires.tables.ones
+          middle new long done.settled done.others weak_done.settled weak_done.others);
+      low = λ j lt none no_weak. weak_done.others j no_weak ∙ done.others j none;
     }
 
 pub next_set-start-requires-clause-known : goal.next_set-start-requires-clause-known
@@ -160,7 +171,7 @@ loop-place-preserved c =
           let at = next-down e words heads bits counts tables place from before is inside start found.from found.none found.here in
           down-next e words heads bits counts tables place from before is inside start shape.refs shape.weak shape.size new at found.from
           refs c.shape_of-shape.ensures.weak size done moved.before moved.behind moved.length;
-      low = λ j lt none. moved.before j (omega (arith, lt, c.loop-place.invariant.safe.up)) ∙ c.loop-place.invariant.low j lt none;
+      low = λ j lt none no_weak. moved.before j (omega (arith, lt, c.loop-place.invariant.safe.up)) ∙ c.loop-place.invariant.low j lt none no_weak;
     }
 
 pub returns-clause-slid : goal.returns-clause-slid

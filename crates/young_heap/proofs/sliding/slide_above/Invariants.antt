@@ -10,9 +10,9 @@ use Rattle.young_heap.proofs.sliding.slide_above.Given as goal
 abbrev pub invariant-loop-place : goal.invariant-loop-place
 invariant-loop-place l = record {
   safe : IsAt l.edition l.fn.words l.old l.heads l.bits l.place l.next l.words;
-  down : AreTables l.edition l.fn.words l.heads l.bits l.counts → AreOld l.edition l.fn.words l.heads l.old → AreRemembered l.edition l.fn.words l.heads l.old l.fields
+  down : AreTables l.edition l.fn.words l.heads l.bits l.counts → AreOld l.edition l.fn.words l.heads l.old → AreRemembered l.edition l.fn.words l.heads l.old l.fields l.weaks
       → IsSlidDown l.edition l.fn.words l.heads l.place l.next l.words;
-  low : (j : ℕ) → j < l.old → has l.fields j ≡ false → get_or l.words j 0 ≡ get_or l.fn.words j 0;
+  low : (j : ℕ) → j < l.old → has l.fields j ≡ false → has l.weaks j ≡ false → get_or l.words j 0 ≡ get_or l.fn.words j 0;
 }
 
 abbrev pub decreases-loop-place : goal.decreases-loop-place

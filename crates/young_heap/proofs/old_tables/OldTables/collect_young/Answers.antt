@@ -3,15 +3,16 @@ use Rattle.std.proofs.lemmas.List.{take_at}
 use Rattle.heap_layout.specs.Bits.{bit}
 use Rattle.heap_layout.proofs.Bounds.{words_most}
 use Rattle.stopped_heap.specs.declared.fault.SurveyFault.TheVariants as survey
-use Rattle.young_heap.specs.Cards.{AreFound, AreGathered}
-use Rattle.young_heap.specs.Refusals.{IsYoungFaultOf}
-use Rattle.young_heap.specs.Young.{is_below_led, AreOld}
+use Rattle.young_heap.specs.Cards.{is_dirty}
+use Rattle.young_heap.specs.Tables.{IsFaultBy}
+use Rattle.young_heap.specs.Young.{is_below_led}
 use Rattle.young_heap.proofs.Watermarks.{other-tables, room-young}
 use Rattle.young_heap.proofs.old_tables.OldTables.collect_young.Goals as goal
 
 pub returns-in-Err-clause-fault : goal.returns-in-Err-clause-fault
 returns-in-Err-clause-fault c =
-    rw (← c.self.view_is) (room-young c.args.edition c.args.words.now c.args.roots.now _ c.args.cards.now c.in-Err.fault c.in-Err.ensures.refused)
+    rw (← c.self.view_is) (room-young c.args.edition c.args.words.now c.args.roots.now
+    (record { room = c.self.inside.room; watermark = c.self.inside.watermark; survived = c.self.inside.survived; starts = c.self.inside.heads.items }) c.args.cards.now c.in-Err.fault c.in-Err.ensures.refused)
 
 pub invariant_of-self : goal.invariant_of-self
 invariant_of-self c =
@@ -29,10 +30,10 @@ invariant_of-self c =
       take_at now.bits (drop (length now.bits) before.bits.items) before.bits.len long_bits,
       take_at now.counts (drop (length now.counts) before.counts.items) before.counts.len long_counts,
     )
-    (other-tables before.room before.watermark before.heads.items before.spare.items before.bits.items before.counts.items _ _ c.self.invariant c.in-Ok.live
-    now.heads before.spare.items now.bits now.counts _ _ (is.heads_long ∙ ap length c.deref_mut.ensures.value) c.self.invariant.for_spare
+    (other-tables before.room before.watermark before.survived before.heads.items before.spare.items before.bits.items before.counts.items _ _ _ c.self.invariant c.in-Ok.live c.in-Ok.live
+    now.heads before.spare.items now.bits now.counts _ _ _ (is.heads_long ∙ ap length c.deref_mut.ensures.value) c.self.invariant.for_spare
     (is.bits_long ∙ ap length c.deref_mut-2.ensures.value) (is.counts_same ∙ ap length c.deref_mut-3.ensures.value)
-    is.queue_room is.fields_room within is.ones is.offsets)
+    is.queue_room is.fields_room is.weaks_room (omega arith) within is.ones is.offsets)
 
 pub returns-in-Ok-clause-clean_stay : goal.returns-in-Ok-clause-clean_stay
 returns-in-Ok-clause-clean_stay c = rw (← c.self.view_is) (λ j low clean. c.in-Ok.ensures.clean_stay j low clean)
@@ -69,7 +70,6 @@ returns-in-Err-collected-clause-fault c =
     let cards = c.args.cards.now in
     let old = c.self.inside.watermark in
     let fault = c.in-Err-collected.fault in
-    let fields = c.collect_by_cards-collected.new.fields.items in
     let is = c.in-Err-collected.ensures in
     let tables = c.self.invariant in
     let fitting = c.in_default.ensures.fitting in
@@ -77,9 +77,8 @@ returns-in-Err-collected-clause-fault c =
     let enough : length words ≤ min c.self.inside.room (2 ^ 31) = omega (arith, few, fitting.few_words, fitting.room_for) in
     let never : fault ≢ survey.OutOfMemory = λ out. elim (is.short out) [
       | inl short ↦ absurd (omega (arith, short, tables.for_fields, tables.within))
-      | inr short ↦ absurd (omega (arith, short, tables.for_queue, enough))
+      | inr (inl short) ↦ absurd (omega (arith, short, tables.for_weaks, tables.within))
+      | inr (inr short) ↦ absurd (omega (arith, short, tables.for_queue, enough))
     ] in
-    let there = subst (λ (starts : List ℕ). AreFound e words starts old cards old fields
-    × (AreOld e words starts old → AreGathered e words starts old cards old fields)
-    × IsYoungFaultOf e words roots starts old fields fault) c.deref_mut.ensures.value (is.fault never) in
-    rw (← c.self.view_is) (fitting, c.if-words-self.false, omega (arith, c.if-cards-wanted.false, c.div_ceil-wanted.ensures), (fields, there.0, there.1, there.2), never)
+    let there = subst (λ (starts : List ℕ). IsFaultBy e words roots starts old (is_dirty cards) fault) c.deref_mut.ensures.value (is.fault never) in
+    rw (← c.self.view_is) (fitting, c.if-words-self.false, omega (arith, c.if-cards-wanted.false, c.div_ceil-wanted.ensures), there, never)

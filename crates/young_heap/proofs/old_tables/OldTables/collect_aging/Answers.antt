@@ -1,0 +1,72 @@
+use Rattle.std.proofs.Common.{◌≡◌, ◌≢◌, ℕ, ◌^◌, ◌≤◌, min, true, List, length, get_or, drop, inl, inr, sym, ap, subst, ◌∙◌, arith}
+use Rattle.std.proofs.lemmas.List.{take_at}
+use Rattle.heap_layout.specs.Bits.{bit}
+use Rattle.heap_layout.proofs.Bounds.{words_most}
+use Rattle.stopped_heap.specs.declared.fault.SurveyFault.TheVariants as survey
+use Rattle.young_heap.specs.Cards.{is_dirty, AreCleanCards}
+use Rattle.young_heap.specs.Tables.{IsFaultBy}
+use Rattle.young_heap.specs.Young.{is_below_led, AreOld}
+use Rattle.young_heap.proofs.Made.{made-clean}
+use Rattle.young_heap.proofs.old_tables.OldTables.collect_aging.Goals as goal
+
+pub returns-in-Ok-clause-clean : goal.returns-in-Ok-clause-clean
+returns-in-Ok-clause-clean c =
+    let e = c.args.edition in
+    let words = c.args.words.now in
+    let cards = c.args.cards.now in
+    let old = c.self.inside.watermark in
+    let before = c.self.inside.heads in
+    let now = c.collect_by_age-collected.new in
+    let is = c.in-Ok.ensures in
+    let value = c.deref_mut.ensures.value in
+    rw (← c.self.view_is, take_at now.heads (drop (length now.heads) before.items) before.len (is.heads_long ∙ c.deref_mut.ensures.len))
+    (λ row clean. made-clean e now.words now.heads c.in-Ok.middle now.cards
+    (is.made (subst (λ (starts : List ℕ). AreOld e words starts old) (sym value) row) (subst (λ (starts : List ℕ). AreCleanCards e words starts old cards) (sym value) clean)))
+
+pub returns-in-Ok-clause-clean_stay : goal.returns-in-Ok-clause-clean_stay
+returns-in-Ok-clause-clean_stay c = rw (← c.self.view_is) (λ j low clean. c.in-Ok.ensures.clean_stay j low clean)
+
+pub returns-in-Ok-clause-below_stay : goal.returns-in-Ok-clause-below_stay
+returns-in-Ok-clause-below_stay c =
+    let old = c.self.inside.watermark in
+    let words = c.args.words.now in
+    rw (← c.self.view_is) (λ j low led.
+    c.in-Ok.ensures.below_stay j low
+    (subst (λ (starts : List ℕ). is_below_led c.args.edition starts old (get_or words j 0) ≡ true) (sym c.deref_mut.ensures.value) led))
+
+pub returns-in-Ok-clause-starts_stay : goal.returns-in-Ok-clause-starts_stay
+returns-in-Ok-clause-starts_stay c =
+    let before = c.self.inside.heads in
+    let heads = c.collect_by_age-collected.new.heads in
+    let is = c.in-Ok.ensures in
+    rw (← c.self.view_is, take_at heads (drop (length heads) before.items) before.len (is.heads_long ∙ c.deref_mut.ensures.len))
+    (λ i low. is.heads_stay i low ∙ ap (λ (xs : List ℕ). bit xs i) c.deref_mut.ensures.value)
+
+pub returns-in-Err-collected-clause-fault : goal.returns-in-Err-collected-clause-fault
+returns-in-Err-collected-clause-fault c =
+    let e = c.args.edition in
+    let words = c.args.words.now in
+    let roots = c.args.roots.now in
+    let cards = c.args.cards.now in
+    let old = c.self.inside.watermark in
+    let fault = c.in-Err-collected.fault in
+    let is = c.in-Err-collected.ensures in
+    let tables = c.self.invariant in
+    let fitting = c.in_default.ensures.fitting in
+    let few = words_most e in
+    let enough : length words ≤ min c.self.inside.room (2 ^ 31) = omega (arith, few, fitting.few_words, fitting.room_for) in
+    let never : fault ≢ survey.OutOfMemory = λ out. elim (is.short out) [
+      | inl short ↦ absurd (omega (arith, short, tables.for_fields, tables.within))
+      | inr (inl short) ↦ absurd (omega (arith, short, tables.for_weaks, tables.within))
+      | inr (inr short) ↦ absurd (omega (arith, short, tables.for_queue, enough))
+    ] in
+    let there = subst (λ (starts : List ℕ). IsFaultBy e words roots starts old (is_dirty cards) fault) c.deref_mut.ensures.value (is.fault never) in
+    rw (← c.self.view_is) (fitting, c.if-words-self.false, omega (arith, c.if-cards-wanted.false, c.div_ceil-wanted.ensures), there, never)
+
+pub returns-in-Err-collected-clause-starts_stay : goal.returns-in-Err-collected-clause-starts_stay
+returns-in-Err-collected-clause-starts_stay c =
+    let before = c.self.inside.heads in
+    let heads = c.collect_by_age-collected.new.heads in
+    let is = c.in-Err-collected.ensures in
+    rw (← c.self.view_is, take_at heads (drop (length heads) before.items) before.len (is.heads_long ∙ c.deref_mut.ensures.len))
+    (λ i low. is.heads_stay i low ∙ ap (λ (xs : List ℕ). bit xs i) c.deref_mut.ensures.value)
