@@ -7,7 +7,7 @@ use Rattle.comp_handle.specs.HandleKinds.{mutator_in, Asks}
 use Rattle.comp_handle.specs.Seeing.{CopiesSeen, SeesBy}
 use Rattle.comp_handle.specs.declared.answer.Answer.{Answer}
 use Rattle.comp_handle.specs.declared.kept.Kept.{Kept}
-use Rattle.comp_handle.specs.declared.kept.Kept.TheVariants.{Nothing, Heap, Plan, Crew, Mutator, Ended, Survey, Tables, Growing, Job, Pages, Looks, Marking, Lane}
+use Rattle.comp_handle.specs.declared.kept.Kept.TheVariants.{Nothing, Heap, Plan, Crew, Mutator, Ended, Survey, Tables, Growing, Old, Job, Pages, Looks, Marking, Lane}
 
 module _ (Q : Member → Answer → Type 0) (R : Type 0) (old : Option Kept) (a : Answer) where
   -- it has a mutator
@@ -25,6 +25,7 @@ module _ (Q : Member → Answer → Type 0) (R : Type 0) (old : Option Kept) (a 
   not_asked (Survey survey) never e g r = subst (λ (o : Option Kept). Asks 0 mutator_in Q R o a) (sym e) (g, r)
   not_asked (Tables tables) never e g r = subst (λ (o : Option Kept). Asks 0 mutator_in Q R o a) (sym e) (g, r)
   not_asked (Growing growth) never e g r = subst (λ (o : Option Kept). Asks 0 mutator_in Q R o a) (sym e) (g, r)
+  not_asked (Old tables) never e g r = subst (λ (o : Option Kept). Asks 0 mutator_in Q R o a) (sym e) (g, r)
   not_asked (Job job) never e g r = subst (λ (o : Option Kept). Asks 0 mutator_in Q R o a) (sym e) (g, r)
   not_asked (Pages pages) never e g r = subst (λ (o : Option Kept). Asks 0 mutator_in Q R o a) (sym e) (g, r)
   not_asked (Looks looks) never e g r = subst (λ (o : Option Kept). Asks 0 mutator_in Q R o a) (sym e) (g, r)

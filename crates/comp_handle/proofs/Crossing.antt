@@ -39,6 +39,7 @@ use Rattle.stopped_heap.proofs.lane.Lane.TheSendSync as lane
 use Rattle.stopped_heap.proofs.looks.Looks.TheSendSync as looks
 use Rattle.stopped_heap.proofs.places.Places.TheSendSync as found
 use Rattle.stopped_heap.proofs.tables.Tables.TheSendSync as tables
+use Rattle.young_heap.proofs.old_tables.OldTables.TheSendSync as old_tables
 use Rattle.mark_job.proofs.job.Job.TheSendSync as job
 use Rattle.mark_job.proofs.heads.Met.TheSendSync as met
 use Rattle.mark_job.proofs.marking.Marking.TheSendSync as marking
@@ -151,4 +152,4 @@ marker_field_send = struct_send (S.shape Marker.the_type) (marking_send, (met.th
 -- what a handle keeps
 pub kept_send : IsSend Kept.the_row
 kept_send = recorded_send (Enum (E.shape Kept.the_type)) (Kept.the_type).D (Kept.the_type).to (Kept.the_type).to_one
-    (enum_send (E.shape Kept.the_type) (tt, ((marked.the_send, tt), ((arc_send, tt), ((bench.the_field_send, tt), ((member.the_field_send, tt), ((ended_field_send, tt), ((survey_send, tt), ((tables.the_send, tt), ((growth.the_send, tt), ((job_send, tt), ((paging_field_send, tt), ((looks.the_send, tt), ((marker_field_send, tt), ((lane.the_send, tt), tt)))))))))))))))
+    (enum_send (E.shape Kept.the_type) (tt, ((marked.the_send, tt), ((arc_send, tt), ((bench.the_field_send, tt), ((member.the_field_send, tt), ((ended_field_send, tt), ((survey_send, tt), ((tables.the_send, tt), ((growth.the_send, tt), ((old_tables.the_send, tt), ((job_send, tt), ((paging_field_send, tt), ((looks.the_send, tt), ((marker_field_send, tt), ((lane.the_send, tt), tt))))))))))))))))

@@ -1,5 +1,6 @@
 mod Words
 mod Called
+mod Changed
 mod Whys
 mod Crossing
 mod Dumps

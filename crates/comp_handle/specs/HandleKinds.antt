@@ -9,6 +9,7 @@ use Rattle.stopped_heap.specs.Lanes.{Laned}
 use Rattle.stopped_heap.specs.Looks.{Looking}
 use Rattle.stopped_heap.specs.Places.{Found}
 use Rattle.stopped_heap.specs.Tables.{Reserved}
+use Rattle.young_heap.specs.Tables.{Watermarked}
 use Rattle.comp_handle.specs.Answers.{bare}
 use Rattle.comp_handle.specs.Knowing.{knowing, Knowing}
 use Rattle.comp_handle.specs.Paged.{paged, Paged}
@@ -28,6 +29,7 @@ heap_in (Some (kept.Ended e)) = None
 heap_in (Some (kept.Survey survey)) = None
 heap_in (Some (kept.Tables tables)) = None
 heap_in (Some (kept.Growing growth)) = None
+heap_in (Some (kept.Old old)) = None
 heap_in (Some (kept.Job job)) = None
 heap_in (Some (kept.Pages pages)) = None
 heap_in (Some (kept.Looks looks)) = None
@@ -46,6 +48,7 @@ plan_in (Some (kept.Ended e)) = None
 plan_in (Some (kept.Survey survey)) = None
 plan_in (Some (kept.Tables tables)) = None
 plan_in (Some (kept.Growing growth)) = None
+plan_in (Some (kept.Old old)) = None
 plan_in (Some (kept.Job job)) = None
 plan_in (Some (kept.Pages pages)) = None
 plan_in (Some (kept.Looks looks)) = None
@@ -64,6 +67,7 @@ crew_in (Some (kept.Ended e)) = None
 crew_in (Some (kept.Survey survey)) = None
 crew_in (Some (kept.Tables tables)) = None
 crew_in (Some (kept.Growing growth)) = None
+crew_in (Some (kept.Old old)) = None
 crew_in (Some (kept.Job job)) = None
 crew_in (Some (kept.Pages pages)) = None
 crew_in (Some (kept.Looks looks)) = None
@@ -82,6 +86,7 @@ mutator_in (Some (kept.Ended e)) = None
 mutator_in (Some (kept.Survey survey)) = None
 mutator_in (Some (kept.Tables tables)) = None
 mutator_in (Some (kept.Growing growth)) = None
+mutator_in (Some (kept.Old old)) = None
 mutator_in (Some (kept.Job job)) = None
 mutator_in (Some (kept.Pages pages)) = None
 mutator_in (Some (kept.Looks looks)) = None
@@ -100,6 +105,7 @@ end_in (Some (kept.Ended e)) = Some e
 end_in (Some (kept.Survey survey)) = None
 end_in (Some (kept.Tables tables)) = None
 end_in (Some (kept.Growing growth)) = None
+end_in (Some (kept.Old old)) = None
 end_in (Some (kept.Job job)) = None
 end_in (Some (kept.Pages pages)) = None
 end_in (Some (kept.Looks looks)) = None
@@ -118,6 +124,7 @@ survey_in (Some (kept.Ended e)) = None
 survey_in (Some (kept.Survey survey)) = Some survey.value
 survey_in (Some (kept.Tables tables)) = None
 survey_in (Some (kept.Growing growth)) = None
+survey_in (Some (kept.Old old)) = None
 survey_in (Some (kept.Job job)) = None
 survey_in (Some (kept.Pages pages)) = None
 survey_in (Some (kept.Looks looks)) = None
@@ -136,6 +143,7 @@ tables_in (Some (kept.Ended e)) = None
 tables_in (Some (kept.Survey survey)) = None
 tables_in (Some (kept.Tables tables)) = Some tables
 tables_in (Some (kept.Growing growth)) = None
+tables_in (Some (kept.Old old)) = None
 tables_in (Some (kept.Job job)) = None
 tables_in (Some (kept.Pages pages)) = None
 tables_in (Some (kept.Looks looks)) = None
@@ -154,6 +162,7 @@ growing_in (Some (kept.Ended e)) = None
 growing_in (Some (kept.Survey survey)) = None
 growing_in (Some (kept.Tables tables)) = None
 growing_in (Some (kept.Growing growth)) = Some growth
+growing_in (Some (kept.Old old)) = None
 growing_in (Some (kept.Job job)) = None
 growing_in (Some (kept.Pages pages)) = None
 growing_in (Some (kept.Looks looks)) = None
@@ -172,11 +181,31 @@ room_in (Some (kept.Ended e)) = None
 room_in (Some (kept.Survey survey)) = None
 room_in (Some (kept.Tables tables)) = Some tables
 room_in (Some (kept.Growing growth)) = Some (record { room = growth.room })
+room_in (Some (kept.Old old)) = None
 room_in (Some (kept.Job job)) = None
 room_in (Some (kept.Pages pages)) = None
 room_in (Some (kept.Looks looks)) = None
 room_in (Some (kept.Marking marker)) = None
 room_in (Some (kept.Lane lane)) = None
+
+-- the tables with a watermark that the handle keeps
+abbrev pub old_in : Option Kept → Option Watermarked
+old_in None = None
+old_in (Some kept.Nothing) = None
+old_in (Some (kept.Heap heap)) = None
+old_in (Some (kept.Plan plan)) = None
+old_in (Some (kept.Crew bench)) = None
+old_in (Some (kept.Mutator m)) = None
+old_in (Some (kept.Ended e)) = None
+old_in (Some (kept.Survey survey)) = None
+old_in (Some (kept.Tables tables)) = None
+old_in (Some (kept.Growing growth)) = None
+old_in (Some (kept.Old old)) = Some old
+old_in (Some (kept.Job job)) = None
+old_in (Some (kept.Pages pages)) = None
+old_in (Some (kept.Looks looks)) = None
+old_in (Some (kept.Marking marker)) = None
+old_in (Some (kept.Lane lane)) = None
 
 -- the heap that is marked by the job that the handle keeps
 abbrev pub job_in : Option Kept → Option Asked
@@ -190,6 +219,7 @@ job_in (Some (kept.Ended e)) = None
 job_in (Some (kept.Survey survey)) = None
 job_in (Some (kept.Tables tables)) = None
 job_in (Some (kept.Growing growth)) = None
+job_in (Some (kept.Old old)) = None
 job_in (Some (kept.Job job)) = Some job.value
 job_in (Some (kept.Pages pages)) = None
 job_in (Some (kept.Looks looks)) = None
@@ -208,6 +238,7 @@ pages_in (Some (kept.Ended e)) = None
 pages_in (Some (kept.Survey survey)) = None
 pages_in (Some (kept.Tables tables)) = None
 pages_in (Some (kept.Growing growth)) = None
+pages_in (Some (kept.Old old)) = None
 pages_in (Some (kept.Job job)) = None
 pages_in (Some (kept.Pages pages)) = Some (paged pages)
 pages_in (Some (kept.Looks looks)) = None
@@ -226,6 +257,7 @@ looks_in (Some (kept.Ended e)) = None
 looks_in (Some (kept.Survey survey)) = None
 looks_in (Some (kept.Tables tables)) = None
 looks_in (Some (kept.Growing growth)) = None
+looks_in (Some (kept.Old old)) = None
 looks_in (Some (kept.Job job)) = None
 looks_in (Some (kept.Pages pages)) = None
 looks_in (Some (kept.Looks looks)) = Some looks
@@ -244,6 +276,7 @@ marking_in (Some (kept.Ended e)) = None
 marking_in (Some (kept.Survey survey)) = None
 marking_in (Some (kept.Tables tables)) = None
 marking_in (Some (kept.Growing growth)) = None
+marking_in (Some (kept.Old old)) = None
 marking_in (Some (kept.Job job)) = None
 marking_in (Some (kept.Pages pages)) = None
 marking_in (Some (kept.Looks looks)) = None
@@ -262,6 +295,7 @@ lane_in (Some (kept.Ended e)) = None
 lane_in (Some (kept.Survey survey)) = None
 lane_in (Some (kept.Tables tables)) = None
 lane_in (Some (kept.Growing growth)) = None
+lane_in (Some (kept.Old old)) = None
 lane_in (Some (kept.Job job)) = None
 lane_in (Some (kept.Pages pages)) = None
 lane_in (Some (kept.Looks looks)) = None

@@ -6,7 +6,7 @@ use Rattle.comp_crew.specs.Finishing.{IsEnded}
 use Rattle.comp_handle.specs.Knowing.{knowing, IsOwnMet}
 use Rattle.comp_handle.specs.Paged.{paged, IsOwn}
 use Rattle.comp_handle.specs.declared.kept.Kept.{Kept}
-use Rattle.comp_handle.specs.declared.kept.Kept.TheVariants.{Nothing, Heap, Plan, Crew, Mutator, Ended, Survey, Tables, Growing, Job, Pages, Looks, Marking, Lane}
+use Rattle.comp_handle.specs.declared.kept.Kept.TheVariants.{Nothing, Heap, Plan, Crew, Mutator, Ended, Survey, Tables, Growing, Old, Job, Pages, Looks, Marking, Lane}
 
 abbrev pub IsKept : Kept → Type 0
 IsKept Nothing = Unit {0}
@@ -18,6 +18,7 @@ IsKept (Ended e) = IsEnded e
 IsKept (Survey survey) = Unit {0}
 IsKept (Tables tables) = Unit {0}
 IsKept (Growing growth) = Unit {0}
+IsKept (Old old) = Unit {0}
 IsKept (Job job) = Unit {0}
 IsKept (Pages pages) = IsOwn (paged pages)
 IsKept (Looks looks) = Unit {0}

@@ -30,5 +30,6 @@ pub mod Telling
 pub mod Moves
 pub mod Guarding
 pub mod Growing
+pub mod Young
 pub mod Paging
 pub mod Touching

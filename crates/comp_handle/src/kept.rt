@@ -6,6 +6,7 @@ use mark_job::Job;
 use page_plan::Plan;
 use std::sync::Arc;
 use stopped_heap::{Growth, Lane, Looks, Places, Tables};
+use young_heap::OldTables;
 
 /// What a handle keeps.
 #[derive(Drop)]
@@ -28,6 +29,8 @@ pub enum Kept {
     Tables(Tables),
     /// A survey of a heap at rest that grows.
     Growing(Growth),
+    /// Tables for young collections, which know a watermark.
+    Old(OldTables),
     /// A job that marks a heap at rest.
     Job(Arc<Job>),
     /// The pages of a slide by first touch.

@@ -1,6 +1,6 @@
 //! What is kept, by its kind: taken out, or looked at.
 ghost use Rattle.std.specs.Prelude.{◌≡◌, None, Some, IfErr, IfOk, MatchOption};
-ghost use Rattle.comp_handle.specs.HandleKinds.{crew_in, end_in, growing_in, heap_in, job_in, lane_in, looks_in, marking_in, mutator_in, pages_in, plan_in, survey_in, tables_in};
+ghost use Rattle.comp_handle.specs.HandleKinds.{crew_in, end_in, growing_in, heap_in, job_in, lane_in, looks_in, marking_in, mutator_in, old_in, pages_in, plan_in, survey_in, tables_in};
 ghost use Rattle.comp_handle.specs.declared.kept.Kept.TheVariants as kinds;
 
 use crate::kept::Kept;
@@ -12,6 +12,7 @@ use mark_job::Job;
 use page_plan::Plan;
 use std::sync::Arc;
 use stopped_heap::{Growth, Lane, Looks, Places, Tables};
+use young_heap::OldTables;
 
 /// The heap that is kept. Err with what is kept if it is none.
 pub(crate) fn into_heap(kept: Kept) -> Result<MarkedHeap, Kept>
@@ -201,6 +202,16 @@ pub(crate) fn as_growing(kept: &Kept) -> Option<&Growth>
 {
     match kept {
         Kept::Growing(growth) => Some(growth),
+        _ => None,
+    }
+}
+
+/// The tables with a watermark that are kept. None if they are none.
+pub(crate) fn as_old(kept: &Kept) -> Option<&OldTables>
+    ensures { MatchOption result (old_in (Some kept.now) ≡ None) (λ tables. kept.now ≡ kinds.Old tables.now) }
+{
+    match kept {
+        Kept::Old(tables) => Some(tables),
         _ => None,
     }
 }

@@ -5,11 +5,11 @@
    manual of each call, and docs/C.md is the guide; docs/ is installed in share/doc/compressor. The library calls
    malloc, realloc and free, and nothing else.
 
-   Handles. Each kind of thing has a struct of its own: heap, plan, crew, mutator, end; survey, tables, growing, job,
-   marking, looks, lane, pages. A handle is empty or keeps one thing. Begin with COMPRESSOR_EMPTY, or with zero bytes.
-   Only calls write to a handle. It may be moved in memory, and never used from two copies. The handles of one call are
-   not the same handle. What a call makes goes into an empty handle; a drop alone frees what a handle keeps. Where a
-   call says that something goes, its handle is empty then.
+   Handles. Each kind of thing has a struct of its own: heap, plan, crew, mutator, end; survey, tables, growing, old,
+   job, marking, looks, lane, pages. A handle is empty or keeps one thing. Begin with COMPRESSOR_EMPTY, or with zero
+   bytes. Only calls write to a handle. It may be moved in memory, and never used from two copies. The handles of one
+   call are not the same handle. What a call makes goes into an empty handle; a drop alone frees what a handle keeps,
+   and of old tables compressor_old_return. Where a call says that something goes, its handle is empty then.
 
    Arrays. The pointer of an array of length 0 may be null, and no other one. Elements are aligned as their type. An
    array or a struct that is written overlaps no other one, and none overlaps a handle, of the same call; those that are
@@ -84,6 +84,7 @@ typedef struct compressor_end { void *at; } compressor_end;         /* a finishe
 typedef struct compressor_survey { void *at; } compressor_survey;   /* which objects of a heap at rest are live */
 typedef struct compressor_tables { void *at; } compressor_tables;   /* room for a survey, made before it */
 typedef struct compressor_growing { void *at; } compressor_growing; /* a survey that grows, by more roots */
+typedef struct compressor_old { void *at; } compressor_old;         /* tables of young collections, with a watermark */
 typedef struct compressor_job { void *at; } compressor_job;         /* the marking of a heap at rest by many threads */
 typedef struct compressor_marking { void *at; } compressor_marking; /* the same in steps, over words that are lent */
 typedef struct compressor_looks { void *at; } compressor_looks;     /* the marking of a heap while its threads go on */
@@ -189,6 +190,15 @@ typedef enum compressor_status {
     COMPRESSOR_STILL_WAITING = 211,   /* (index) this object waits to be looked at */
     COMPRESSOR_MISSING_OBJECT = 212,  /* (index) a lane met this object, and it is in none of those that were joined */
     COMPRESSOR_OTHER_HEAP = 213,      /* the lanes are of two editions, or not of as many words */
+    /* young collections */
+    COMPRESSOR_FEW_WORDS = 221,       /* (words) there are fewer words than the watermark */
+    COMPRESSOR_FEW_CARDS = 222,       /* (cards) so many are wanted: one for each 64 words below the watermark; of
+                                         compressor_collect_aging, of the words that the last collection left */
+    COMPRESSOR_NOT_A_FIELD = 223,     /* (index) it is listed, and no old object has a reference or a weak word there */
+    COMPRESSOR_NOT_A_ROW = 224,       /* (index) before this word old objects lie in a row, as the last collection left
+                                         them, and here the row does not go on: a header was changed */
+    COMPRESSOR_LEADS_ABOVE = 225,     /* (index of the word) it is a reference or a weak word of an old object, its card
+                                         is clean, and it leads to no old object */
     COMPRESSOR_WRONG_HANDLE = 255         /* a handle of another kind: a cast, a byte that C wrote, or a survey that was
                                              to grow and is over (compressor_growing_return) */
 } compressor_status;
@@ -429,6 +439,11 @@ static inline const char *compressor_status_text(uint32_t status) {
         COMPRESSOR_CASE_(STILL_WAITING)
         COMPRESSOR_CASE_(MISSING_OBJECT)
         COMPRESSOR_CASE_(OTHER_HEAP)
+        COMPRESSOR_CASE_(FEW_WORDS)
+        COMPRESSOR_CASE_(FEW_CARDS)
+        COMPRESSOR_CASE_(NOT_A_FIELD)
+        COMPRESSOR_CASE_(NOT_A_ROW)
+        COMPRESSOR_CASE_(LEADS_ABOVE)
         COMPRESSOR_CASE_(WRONG_HANDLE)
 #undef COMPRESSOR_CASE_
         default: return "UNKNOWN";
@@ -576,6 +591,65 @@ compressor_answer compressor_growing_keeps(compressor_growing *growing, uint64_t
 compressor_answer compressor_growing_settle(compressor_growing *growing, compressor_survey *survey);
 compressor_answer compressor_growing_return(compressor_growing *growing, compressor_tables *tables);
 void compressor_growing_drop(compressor_growing *growing);
+
+/* Young collections, within the words, by tables that know a watermark: the objects below it are old. A young
+   collection leaves them where they are, and slides what lives above down to them, so it costs what is young and lives,
+   the roots, and what was stored into old objects. An old object that nothing reaches stays, with all that its
+   references reach, until compressor_collect_all.
+   Between two collections the runtime makes its objects behind the words that the last one left, and each store of a
+   reference or a weak word into an old object marks the card of the word, the byte cards[index / 64]: 0 is clean, all
+   else is dirty (compressor_store_card of compressor_rest.h). What the runtime keeps, beside what it keeps for each
+   collection, and what a young one believes:
+   1. No header word below the watermark changes, also of dead objects.
+   2. A reference or a weak word of an old object, dead or not, on a clean card is null, an immediate, or the address of
+      an old object.
+   A debug build asks compressor_old_check. If they are neither kept nor asked for, the words that a young collection
+   leaves may be wrong; yet it stays within the words and the roots, and of the words below the watermark it changes
+   none but such as are on dirty cards and lead to no old object.
+   One edition goes with the tables as long as there is a watermark; they do not know which.
+   old_reserve: tables for heaps of so many words, with watermark 0. They take three bits a word, 4 bytes for each 64
+   words, and 12 a word, of which a collection touches 4 for each young object that it meets, and 4 for each word on a
+   dirty card that leads to no old object. Memory. No call below takes any.
+   watermark: answers it, an index of words; 0 before the first collection.
+   collect_all: as compressor_collect_in_place, whatever is old. Answers the live words, which are the watermark then:
+   what lives is old. Refusals, after which words, roots and tables are as they were: BAD_EDITION; TOO_LARGE;
+   SHORT_TABLES (their room); a fault that is there: BAD_ROOT, BAD_REFERENCE, BAD_WEAK, OBJECT_TOO_LONG, OBJECT_PAST_END
+   or OVERLAP.
+   collect_young: collects what roots, and references of old objects on dirty cards, reach above the watermark. A weak
+   word on a dirty card becomes null if its object dies. Answers how many words there are then, the watermark: what
+   lives is old. Those behind stay. Refusals, after which words, roots and watermark are as they were: BAD_EDITION;
+   TOO_LARGE; SHORT_TABLES (their room); FEW_WORDS (the watermark); FEW_CARDS (how many are wanted: one for each 64
+   words below the watermark, the last ones in part); a fault that is there, as of collect_all. A root, and a reference
+   of a young object or on a dirty card, is bad if it leads neither to a word from the watermark on nor to the first
+   word of an old object; a weak word of these, if it leads to none of the words.
+   After these two, if they are done, all cards below the watermark may be clean; they clean none.
+   collect_young_by: as collect_young, by a list in place of cards: the indices of the words of old objects that were
+   stored into since the last collection, in any order, also several times. A word of an old object that is not in it is
+   as one on a clean card. The call may put the list into another order, also if it is refused. In place of FEW_CARDS
+   comes NOT_A_FIELD (an index of the list at which no old object has a reference or a weak word). After it, if it is
+   done, the list may be empty.
+   collect_aging: as collect_young, but an object becomes old when it has survived two collections. So the watermark is
+   then behind what the last collection left, and lives; what was made since then lies above. It makes the cards anew:
+   just those are dirty that have a reference or a weak word of an old object that leads to no old object. FEW_CARDS:
+   one for each 64 words that the last collection left is wanted. A refused call leaves the cards as they were too.
+   old_check: whether 1 and 2 are kept. It reads all old objects; a card that is not handed in is clean. Refusals:
+   BAD_EDITION; a fault that is there: NOT_A_ROW, if 1 is not kept, or words are missing; LEADS_ABOVE, if 2 is not.
+   old_return: frees the tables. */
+compressor_answer compressor_old_reserve(uint64_t words, compressor_old *old);
+compressor_answer compressor_watermark(compressor_old *old);
+compressor_answer compressor_collect_all(compressor_old *old, uint32_t edition, uint64_t *words, size_t word_count,
+                                         uint64_t *roots, size_t root_count);
+compressor_answer compressor_collect_young(compressor_old *old, uint32_t edition, uint64_t *words, size_t word_count,
+                                           const uint8_t *cards, size_t card_count, uint64_t *roots,
+                                           size_t root_count);
+compressor_answer compressor_collect_young_by(compressor_old *old, uint32_t edition, uint64_t *words,
+                                              size_t word_count, uint64_t *fields, size_t field_count,
+                                              uint64_t *roots, size_t root_count);
+compressor_answer compressor_collect_aging(compressor_old *old, uint32_t edition, uint64_t *words, size_t word_count,
+                                           uint8_t *cards, size_t card_count, uint64_t *roots, size_t root_count);
+compressor_answer compressor_old_check(compressor_old *old, uint32_t edition, const uint64_t *words, size_t word_count,
+                                       const uint8_t *cards, size_t card_count);
+void compressor_old_return(compressor_old *old);
 
 /* A survey whose marking many threads share. begin: a job that marks what these roots reach, in a copy of these words
    and roots. Refusals: BAD_EDITION; TOO_LARGE; memory. share: another handle of the same job, for another thread, or
@@ -892,7 +966,8 @@ COMPRESSOR_ASSERT_(sizeof(compressor_survey) == 8 && sizeof(compressor_tables) =
                    "handles");
 COMPRESSOR_ASSERT_(sizeof(compressor_marking) == 8 && sizeof(compressor_looks) == 8 && sizeof(compressor_growing) == 8,
                    "handles");
-COMPRESSOR_ASSERT_(sizeof(compressor_lane) == 8 && sizeof(compressor_pages) == 8, "handles");
+COMPRESSOR_ASSERT_(sizeof(compressor_lane) == 8 && sizeof(compressor_pages) == 8 && sizeof(compressor_old) == 8,
+                   "handles");
 COMPRESSOR_ASSERT_(sizeof(compressor_answer) == 16 && offsetof(compressor_answer, other) == 4, "answer");
 COMPRESSOR_ASSERT_(offsetof(compressor_answer, value) == 8, "answer");
 COMPRESSOR_ASSERT_(sizeof(compressor_entry) == 24 && offsetof(compressor_entry, writer) == 16, "entry");

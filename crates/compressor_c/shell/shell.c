@@ -75,6 +75,28 @@ CALL(growing_also_values,
      (compressor_growing *growing, const uint64_t *words, size_t word_count, const uint64_t *ephemerons,
       size_t ephemeron_words),
      (growing, IN(words, word_count), word_count, IN(ephemerons, ephemeron_words), ephemeron_words))
+CALL(collect_all,
+     (compressor_old *old, uint32_t edition, uint64_t *words, size_t word_count, uint64_t *roots, size_t root_count),
+     (old, edition, OUT(words, word_count), word_count, OUT(roots, root_count), root_count))
+CALL(collect_young,
+     (compressor_old *old, uint32_t edition, uint64_t *words, size_t word_count, const uint8_t *cards,
+      size_t card_count, uint64_t *roots, size_t root_count),
+     (old, edition, OUT(words, word_count), word_count, IN(cards, card_count), card_count, OUT(roots, root_count),
+      root_count))
+CALL(collect_young_by,
+     (compressor_old *old, uint32_t edition, uint64_t *words, size_t word_count, uint64_t *fields, size_t field_count,
+      uint64_t *roots, size_t root_count),
+     (old, edition, OUT(words, word_count), word_count, OUT(fields, field_count), field_count, OUT(roots, root_count),
+      root_count))
+CALL(collect_aging,
+     (compressor_old *old, uint32_t edition, uint64_t *words, size_t word_count, uint8_t *cards, size_t card_count,
+      uint64_t *roots, size_t root_count),
+     (old, edition, OUT(words, word_count), word_count, OUT(cards, card_count), card_count, OUT(roots, root_count),
+      root_count))
+CALL(old_check,
+     (compressor_old *old, uint32_t edition, const uint64_t *words, size_t word_count, const uint8_t *cards,
+      size_t card_count),
+     (old, edition, IN(words, word_count), word_count, IN(cards, card_count), card_count))
 CALL(looks_begin,
      (uint32_t edition, uint64_t word_count, const uint64_t *roots, size_t root_count, compressor_looks *looks),
      (edition, word_count, IN(roots, root_count), root_count, looks))

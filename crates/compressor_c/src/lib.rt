@@ -14,6 +14,7 @@ mod mutator;
 mod pages;
 mod plan;
 mod rest;
+mod young;
 
 ghost use Rattle.std.specs.Prelude.{◌≡◌};
 
