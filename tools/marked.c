@@ -124,7 +124,7 @@ int main(void) {
     /* no words, no parts */
     compressor_buffer_empty(&buffer);
     if (compressor_new(&space, &buffer, pair_header, 0) != 0 || space.used != live) fail("an object of no words");
-    buffer.at = buffer.end = COMPRESSOR_FROM_SPACE + ROOM;
+    buffer.at = buffer.end = buffer.last = COMPRESSOR_FROM_SPACE + ROOM;
     if (compressor_new(&space, &buffer, pair_header, 0) != 0) fail("an object of no words, behind the room");
     for (uint64_t n = 0; n < 4; n++) {
         size_t count = 1;

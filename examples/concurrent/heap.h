@@ -82,7 +82,7 @@ static inline ref heap_new(mutator *m, uint64_t header) {
 /* Any field; a reference field; any field of an object that was made since the last safepoint. */
 static inline uint64_t heap_load(ref object, uint64_t k) { return compressor_load(&heap_space, object, k); }
 static inline void heap_store(mutator *m, ref object, uint64_t k, ref value) {
-    if (m->cards != NULL) compressor_store_card(&heap_space, m->cards, object, k, value);
+    if (m->cards != NULL) compressor_store_head_card(&heap_space, m->cards, object, k, value);
     else compressor_store_barrier(&heap_space, m->barrier, object, k, value);
 }
 static inline void heap_set(ref object, uint64_t k, uint64_t value) { compressor_store(&heap_space, object, k, value); }
@@ -93,7 +93,7 @@ static inline ref heap_load_weak(mutator *m, ref object, uint64_t k) {
     return value;
 }
 static inline void heap_store_weak(mutator *m, ref object, uint64_t k, ref value) {
-    if (m->cards != NULL) compressor_store_card(&heap_space, m->cards, object, k, value);
+    if (m->cards != NULL) compressor_store_head_card(&heap_space, m->cards, object, k, value);
     else compressor_store_release(&heap_space, object, k, value); /* markers that look read it */
 }
 

@@ -260,8 +260,10 @@ uint64_t collect_step(uint64_t most) { return touch_step(most); }
 /* Who takes words for new objects builds some pages first: so all are home long before the next stop. Or it marks: so
    the marking ends long before the heap is full, also where markers get no processor. */
 ref heap_new_slowly(mutator *m, uint64_t header, uint64_t words) {
-    if (!touch_all_home()) touch_step(own.share);
-    if (m->kept.live != NULL) work_step(&m->kept, heap.share);
+    if (m->buffer.last - m->buffer.at < words) { /* it takes more of the room */
+        if (!touch_all_home()) touch_step(own.share);
+        if (m->kept.live != NULL) work_step(&m->kept, heap.share);
+    }
     const ref object = compressor_new_slowly(&heap_space, &m->buffer, header, words);
     if (object == 0) heap_fail("StepTooLarge");
     return object;

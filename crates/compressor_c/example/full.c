@@ -162,7 +162,7 @@ static void check_sixteenths(void) {
 }
 
 static void fill(way it) {
-    const mutator none = {{0, 0}, 0, 0, 0, 0, 0};
+    const mutator none = {{0, 0, 0}, 0, 0, 0, 0, 0};
     const compressor_space empty = {0, NULL, 0, 0, 0, 0, 0, 0};
     const uint64_t before = collections;
     chosen = it;
@@ -229,7 +229,7 @@ static void check_limits(void) {
 static void check_places(void) {
     static uint64_t words[100];
     const compressor_space empty = {0, NULL, 0, 0, 0, 0, 0, 0};
-    compressor_buffer buffer = {0, 0};
+    compressor_buffer buffer = {0, 0, 0};
     compressor_answer a;
     uint64_t roots[2];
     space = empty;

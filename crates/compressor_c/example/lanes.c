@@ -75,7 +75,7 @@ static uint64_t write_some(uint64_t i, uint64_t made, uint64_t end) {
         words[made] = COMPRESSOR_HEADER(2, 0, 1, 7);
         words[made + 1] = at(i);
         words[made + 3] = made;
-        compressor_store_card(&space, cards, at(i), 0, at(made));
+        compressor_store_head_card(&space, cards, at(i), 0, at(made));
         made += SIZE;
     }
     return i;
