@@ -7,7 +7,7 @@
      cycle.c     flips, crews and mutators by one thread; act.c has what a mutator is asked
      end.c       finished cycles, next heaps
      rest.c      heaps at rest; looks.c their marking by looks, lanes.c by lanes at first; growing.c surveys that grow;
-                 pages.c slides by pages; faults.c what is refused
+                 old.c young collections; pages.c slides by pages; faults.c what is refused
      handles.c   empty, full and wrong handles; limits.c editions: shapes, immediates, what is too large
      threads.c   a cycle by four threads; together.c what else they do together */
 #ifndef DRIVER_H
@@ -245,6 +245,8 @@ void survey_by_growing(uint32_t edition, const uint64_t *words, uint64_t count, 
                        size_t root_count, uint64_t live, compressor_survey *survey);
 compressor_answer grow_by_fault(uint32_t edition, const uint64_t *words, uint64_t count, const uint64_t *roots,
                                 size_t root_count);
+/* Young collections of a copy of these words, which are the graph; that is afterwards as they left it. */
+void old_round(graph *g, const uint64_t *words, uint64_t count);
 void slide_pages(compressor_survey *survey, const uint64_t *words, uint64_t count, uint64_t live, uint64_t *to);
 void rest_faults(graph *g, const uint64_t *words, uint64_t count);
 void handles_round(void);

@@ -12,6 +12,7 @@ typedef struct all {
     compressor_end end;
     compressor_survey survey, survey_share;
     compressor_tables tables;
+    compressor_old old;
     compressor_growing growing;
     compressor_job job, job_share;
     compressor_marking marking, marking_share;
@@ -41,6 +42,12 @@ static void ask_empty(all *a) {
     EMPTY(survey_forward, &a->survey, a->words, 1);
     EMPTY(survey_forward_weak, &a->survey, a->words, 1);
     EMPTY(survey_return, &a->survey, &a->tables);
+    EMPTY(watermark, &a->old);
+    EMPTY(collect_all, &a->old, 9, a->words, 1, a->words + 1, 1);
+    EMPTY(collect_young, &a->old, 9, a->words, 1, a->bytes, 1, a->words + 1, 1);
+    EMPTY(collect_young_by, &a->old, 9, a->words, 1, a->words + 2, 1, a->words + 1, 1);
+    EMPTY(collect_aging, &a->old, 9, a->words, 1, a->bytes, 1, a->words + 1, 1);
+    EMPTY(old_check, &a->old, 9, a->words, 1, a->bytes, 1);
     EMPTY(growing_begin_lent, &a->tables, 9, a->words, 1, &a->growing);
     EMPTY(growing_also, &a->growing, a->words, 1, a->words + 1, 1);
     EMPTY(growing_also_values, &a->growing, a->words, 1, a->words + 1, 3);
@@ -126,6 +133,7 @@ static void drop_all(all *a) {
     DROP(survey_drop, &a->survey);
     DROP(survey_drop, &a->survey_share);
     DROP(tables_drop, &a->tables);
+    DROP(old_return, &a->old);
     DROP(growing_drop, &a->growing);
     DROP(job_drop, &a->job);
     DROP(job_drop, &a->job_share);
@@ -161,6 +169,8 @@ static void ask_full(all *a, compressor_heap *heap) {
     DONE(1, crew_take, &a->crew, &a->other);
     DONE(0, tables_reserve, 3, &a->tables);
     FULL(0, tables_reserve, 3, &a->tables);
+    DONE(0, old_reserve, 3, &a->old);
+    FULL(0, old_reserve, 3, &a->old);
     DONE(0, survey_by_roots, 4, a->words, 3, a->words, 0, &a->survey);
     DONE(0, survey_share, &a->survey, &a->survey_share);
     DONE(0, growing_begin, 4, a->words, 3, &a->growing);
@@ -219,6 +229,13 @@ static void ask_full(all *a, compressor_heap *heap) {
     WRONG(survey_return, (compressor_survey *)(void *)&a->job, &(compressor_tables)COMPRESSOR_EMPTY);
     WRONG(growing_begin_lent, (compressor_tables *)(void *)&a->survey, 4, a->words, 3,
           &(compressor_growing)COMPRESSOR_EMPTY);
+    WRONG(watermark, (compressor_old *)(void *)&a->tables);
+    WRONG(collect_all, (compressor_old *)(void *)&a->tables, 4, a->words, 3, a->words + 3, 1);
+    WRONG(collect_young, (compressor_old *)(void *)&a->tables, 4, a->words, 3, a->bytes, 1, a->words + 3, 1);
+    WRONG(collect_young_by, (compressor_old *)(void *)&a->heap, 4, a->words, 3, a->words + 4, 1, a->words + 3, 1);
+    WRONG(collect_aging, (compressor_old *)(void *)&a->tables, 4, a->words, 3, a->bytes, 1, a->words + 3, 1);
+    WRONG(old_check, (compressor_old *)(void *)&a->job, 4, a->words, 3, a->bytes, 1);
+    WRONG(collect_in_place_lent, (compressor_tables *)(void *)&a->old, 4, a->words, 3, a->words + 3, 1);
     WRONG(growing_also, (compressor_growing *)(void *)&a->survey, a->words, 3, a->words, 1);
     WRONG(growing_also_values, (compressor_growing *)(void *)&a->job, a->words, 3, a->words, 3);
     WRONG(growing_keeps, (compressor_growing *)(void *)&a->looks, 0);

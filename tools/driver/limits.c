@@ -64,6 +64,7 @@ void limits_round(void) {
     compressor_heap heap = COMPRESSOR_EMPTY;
     compressor_survey survey = COMPRESSOR_EMPTY;
     compressor_tables tables = COMPRESSOR_EMPTY;
+    compressor_old old = COMPRESSOR_EMPTY;
     compressor_growing growing = COMPRESSOR_EMPTY;
     compressor_job job = COMPRESSOR_EMPTY;
     compressor_marking marking = COMPRESSOR_EMPTY;
@@ -71,7 +72,9 @@ void limits_round(void) {
     compressor_lane lane = COMPRESSOR_EMPTY;
     compressor_end end = COMPRESSOR_EMPTY;
     uint32_t marks[1] = {0};
+    uint8_t bytes[1] = {0};
     DONE(0, tables_reserve, 2, &tables);
+    DONE(0, old_reserve, 2, &old);
     for (uint32_t edition = 1; edition <= 2; edition++) {
         const uint64_t too_many = compressor_max_words(edition + 2) + 1;
         ANSWERS(COMPRESSOR_TOO_LARGE, 0, heap_by_roots, edition, words, 2, roots, ROOTS, &heap);
@@ -79,6 +82,11 @@ void limits_round(void) {
         ANSWERS(COMPRESSOR_TOO_LARGE, 0, collect, edition, words, 2, roots, ROOTS, to, 2);
         ANSWERS(COMPRESSOR_TOO_LARGE, 0, collect_in_place, edition, words, 2, roots, ROOTS);
         ANSWERS(COMPRESSOR_TOO_LARGE, 0, collect_lent, &tables, edition, words, 2, roots, ROOTS, to, 2);
+        ANSWERS(COMPRESSOR_TOO_LARGE, 0, collect_all, &old, edition, words, 2, roots, ROOTS);
+        ANSWERS(COMPRESSOR_TOO_LARGE, 0, collect_young, &old, edition, words, 2, bytes, 1, roots, ROOTS);
+        ANSWERS(COMPRESSOR_TOO_LARGE, 0, collect_young_by, &old, edition, words, 2, to, 0, roots, ROOTS);
+        ANSWERS(COMPRESSOR_TOO_LARGE, 0, collect_aging, &old, edition, words, 2, bytes, 1, roots, ROOTS);
+        DONE(0, collect_all, &old, edition + 2, words, 2, roots, ROOTS);
         ANSWERS(COMPRESSOR_TOO_LARGE, 0, survey_by_roots, edition, words, 2, roots, ROOTS, &survey);
         ANSWERS(COMPRESSOR_TOO_LARGE, 0, survey_by_roots_lent, &tables, edition, words, 2, roots, ROOTS, &survey);
         ANSWERS(COMPRESSOR_TOO_LARGE, 0, survey_by_marks, edition, words, 2, roots, ROOTS, words, 1, &survey);
@@ -105,6 +113,7 @@ void limits_round(void) {
     DONE(0, end_next_by_marks, &end, marks, 1, roots, ROOTS - 1, &heap);
     DROP(heap_drop, &heap);
     DROP(tables_drop, &tables);
+    DROP(old_return, &old);
     SAME(blocks_kept(), 0);
     free(roots);
 }

@@ -40,19 +40,35 @@ static void cycles(void) {
     graph_free(&g);
 }
 
-/* A heap at rest of objects with anything between them. */
+/* Words of a graph at rest, with anything between its objects. */
+static uint64_t *lay_at_rest(graph *g, uint64_t *count) {
+    uint64_t *words;
+    graph_any(g, 1 + (uint32_t)below(4), below(one_in(3) ? 500 : 50));
+    graph_spread(g, one_in(2) ? 40 : 3);
+    *count = graph_end(g) + below(70);
+    if (*count > compressor_max_words(g->edition)) *count = graph_end(g);
+    words = (uint64_t *)zeros(*count, sizeof *words);
+    for (uint64_t i = 0; i < *count; i++) words[i] = one_in(2) ? any_word() : FROM + below(*count);
+    graph_fill(g, FROM, words);
+    return words;
+}
+
 static void at_rest(void) {
     graph g;
-    uint64_t count, *words;
-    graph_any(&g, 1 + (uint32_t)below(4), below(one_in(3) ? 500 : 50));
-    graph_spread(&g, one_in(2) ? 40 : 3);
-    count = graph_end(&g) + below(70);
-    if (count > compressor_max_words(g.edition)) count = graph_end(&g);
-    words = (uint64_t *)zeros(count, sizeof *words);
-    for (uint64_t i = 0; i < count; i++) words[i] = one_in(2) ? any_word() : FROM + below(count);
-    graph_fill(&g, FROM, words);
+    uint64_t count, *words = lay_at_rest(&g, &count);
     rest_round(&g, words, count);
     graph_free(&g);
+}
+
+/* Some heaps whose objects grow old. */
+static void grow_old(void) {
+    for (uint64_t heaps = 1 + below(8); heaps > 0; heaps--) {
+        graph g;
+        uint64_t count, *words = lay_at_rest(&g, &count);
+        old_round(&g, words, count);
+        free(words);
+        graph_free(&g);
+    }
 }
 
 static void round_of(uint64_t seed, uint64_t round) {
@@ -61,6 +77,7 @@ static void round_of(uint64_t seed, uint64_t round) {
     if (round % 32 == 0) handles_round();
     else if (round == 1) limits_round();
     else if (round % 8 == 3) threads_round();
+    else if (round % 8 == 5) grow_old();
     else if (round % 2 == 1) at_rest();
     else cycles();
     SAME(blocks_kept(), 0);

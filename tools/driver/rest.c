@@ -21,7 +21,7 @@ typedef struct rest {
 static void go_on(rest *r) {
     graph *g = r->g;
     compressor_space space = {0};
-    compressor_buffer buffer = {0, 0};
+    compressor_buffer buffer = {0, 0, 0};
     const uint64_t room = r->count + below(600);
     r->words = (uint64_t *)realloc(r->words, (room + 1) * sizeof *r->words);
     IS(r->words != NULL);
@@ -49,6 +49,12 @@ static void go_on(rest *r) {
         o->fields[k] = k < most ? any_value(g) : any_word();
         compressor_store(&space, at, k, k < most ? word_of(g, FROM, o->fields[k]) : o->fields[k]);
         IS(compressor_load_acquire(&space, at, k) == compressor_load(&space, at, k));
+    }
+    /* what was made, and what buffers left, is a row of objects */
+    for (uint64_t i = r->count; i < space.used;) {
+        const uint64_t words = compressor_shape_words(compressor_shape_at(&space, FROM + i));
+        IS(words <= space.used - i && words <= compressor_max_object_words(g->edition));
+        i += words;
     }
     r->count = space.used;
     graph_roots(g, below(9));
