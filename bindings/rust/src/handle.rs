@@ -2,10 +2,15 @@
 
 /// A type that owns what a handle keeps. It is `Send`, and neither `Sync` nor `Clone`. Its methods never leave it
 /// empty.
+///
+/// Where compressor.h has another name for it, that stands behind `as`.
 macro_rules! handle {
     ($(#[$doc:meta])* $name:ident, $drop:ident) => {
+        $crate::handle::handle! { $(#[$doc])* $name as $name, $drop }
+    };
+    ($(#[$doc:meta])* $name:ident as $own:ident, $drop:ident) => {
         $(#[$doc])*
-        pub struct $name(pub(crate) crate::sys::$name);
+        pub struct $name(pub(crate) crate::sys::$own);
 
         // SAFETY: what a handle keeps belongs to no thread; each handle is used by one call at a time, since each
         // call borrows it to write.
@@ -14,9 +19,9 @@ macro_rules! handle {
         impl $name {
             /// What a call makes in a fresh handle, and its value. Of a refused call the handle stays empty.
             pub(crate) fn made(
-                call: impl FnOnce(&mut crate::sys::$name) -> crate::sys::Answer,
+                call: impl FnOnce(&mut crate::sys::$own) -> crate::sys::Answer,
             ) -> Result<($name, u64), crate::Refusal> {
-                let mut made = $name(crate::sys::$name::EMPTY);
+                let mut made = $name(crate::sys::$own::EMPTY);
                 let value = crate::refusal::told(call(&mut made.0))?;
                 Ok((made, value))
             }

@@ -77,8 +77,8 @@
 //!
 //! # Handles
 //!
-//! [`Heap`], [`Plan`], [`Crew`], [`Mutator`], [`End`], [`rest::Survey`], [`rest::Tables`], [`rest::Job`],
-//! [`rest::Marking`], [`rest::Looks`], [`rest::Lane`] and [`rest::Pages`] own what the library keeps, and their drop
+//! [`Heap`], [`Plan`], [`Crew`], [`Mutator`], [`End`], [`rest::Survey`], [`rest::Tables`],
+//! [`rest::OldTables`], [`rest::Job`], [`rest::Marking`], [`rest::Looks`], [`rest::Lane`] and [`rest::Pages`] own what the library keeps, and their drop
 //! frees it. They go from thread to thread, and are not shared or cloned: where threads use one thing at the same time,
 //! each has a share of its own. A method takes `&mut self`, a read too, since a handle is used by one call at a time.
 //! What a call uses up it takes by value; if it is refused, that comes back ([`Refused`]).

@@ -5,7 +5,8 @@
 //! objects are live, slides them, and forwards tables; a [`Job`] is its marking by several threads, a
 //! [`Marking`] the same with no copy, and in steps; [`Growing`] takes roots by and by, and says what is kept so far;
 //! [`Tables`] are room for one, made before it. By [`Pages`] threads go on while the heap slides, by [`Looks`] while it
-//! is marked.
+//! is marked. By [`OldTables`] what was made since the last collection is collected alone, and the rest stays where it
+//! is.
 //!
 //! What the runtime keeps:
 //!
@@ -22,24 +23,29 @@
 //! it: so all threads stand still.
 
 mod buffer;
+mod cards;
 mod collections;
 mod growing;
 mod job;
 mod lane;
 mod looks;
 mod marking;
+mod old_tables;
 mod pages;
 mod space;
 mod survey;
 mod tables;
 mod turning;
+mod young;
 
 pub use buffer::{Buffer, CHUNK};
+pub use cards::{Cards, CARD};
 pub use growing::Growing;
 pub use job::{Help, Job};
 pub use lane::Lane;
 pub use looks::Looks;
 pub use marking::Marking;
+pub use old_tables::OldTables;
 pub use pages::{BuiltPage, Page, Pages};
 pub use space::Space;
 pub use survey::Survey;

@@ -24,7 +24,7 @@ macro_rules! handles {
     };
 }
 
-handles! { Heap Plan Crew Mutator End Survey Tables Growing Job Marking Looks Lane Pages }
+handles! { Heap Plan Crew Mutator End Survey Tables Growing Old Job Marking Looks Lane Pages }
 
 /// What each call answers: `status` 0 and the value, or the numbers of a refusal.
 #[repr(C)]
@@ -125,6 +125,25 @@ unsafe extern "C" {
     pub safe fn compressor_growing_settle(growing: &mut Growing, survey: &mut Survey) -> Answer;
     pub safe fn compressor_growing_return(growing: &mut Growing, tables: &mut Tables) -> Answer;
     pub safe fn compressor_growing_drop(growing: &mut Growing);
+
+    pub safe fn compressor_old_reserve(words: u64, old: &mut Old) -> Answer;
+    pub safe fn compressor_watermark(old: &mut Old) -> Answer;
+    pub fn compressor_collect_all(
+        old: &mut Old, edition: u32, words: *mut u64, word_count: usize, roots: *mut u64,
+        root_count: usize) -> Answer;
+    pub fn compressor_collect_young(
+        old: &mut Old, edition: u32, words: *mut u64, word_count: usize, cards: *const u8,
+        card_count: usize, roots: *mut u64, root_count: usize) -> Answer;
+    pub fn compressor_collect_young_by(
+        old: &mut Old, edition: u32, words: *mut u64, word_count: usize, fields: *mut u64,
+        field_count: usize, roots: *mut u64, root_count: usize) -> Answer;
+    pub fn compressor_collect_aging(
+        old: &mut Old, edition: u32, words: *mut u64, word_count: usize, cards: *mut u8,
+        card_count: usize, roots: *mut u64, root_count: usize) -> Answer;
+    pub fn compressor_old_check(
+        old: &mut Old, edition: u32, words: *const u64, word_count: usize, cards: *const u8,
+        card_count: usize) -> Answer;
+    pub safe fn compressor_old_return(old: &mut Old);
 
     pub fn compressor_job_begin(
         edition: u32, words: *const u64, word_count: usize, roots: *const u64, root_count: usize,

@@ -1,6 +1,8 @@
 //! What types promise; that a handle is not shared or cloned doc tests in src/handle.rs say.
 
-use compressor::rest::{Buffer, Growing, Job, Lane, Looks, Marking, Pages, Space, Survey, Tables};
+use compressor::rest::{
+    Buffer, Cards, Growing, Job, Lane, Looks, Marking, OldTables, Pages, Space, Survey, Tables,
+};
 use compressor::{
     Address, Crew, Edition, End, Heap, Mutator, Plan, Refusal, Refused, Shape, Value,
 };
@@ -18,6 +20,7 @@ fn handles_go_to_other_threads() {
     is_sent::<Survey>();
     is_sent::<Tables>();
     is_sent::<Growing<'_>>();
+    is_sent::<OldTables>();
     is_sent::<Job>();
     is_sent::<Marking>();
     is_sent::<Looks>();
@@ -26,6 +29,7 @@ fn handles_go_to_other_threads() {
     is_sent::<Refused<Crew>>();
     is_sent::<Buffer>();
     is_shared::<Space>();
+    is_shared::<Cards>();
     is_shared::<Value>();
     is_shared::<Address>();
     is_shared::<Refusal>();
