@@ -1,6 +1,6 @@
 /* bench.c: runs one program over the heap of one back end: `bench PROGRAM SIZE`. Prints a line of JSON: times in
    milliseconds, memory in MB, words, the check sum, which is that of each other back end, and of each pause when it
-   began and how long it was. */
+   began, how long it was, and its processor time. */
 #define _GNU_SOURCE
 #include "heap.h"
 
@@ -90,7 +90,8 @@ int main(int argc, char **argv) {
            ms(told.pauses) / count, ms(told.longest_pause), (double)peak_memory() / 1024,
            (unsigned long long)told.most_live, (unsigned long long)sum);
     for (uint64_t k = 0; k < told.count && k < MOST_PAUSES; k++)
-        printf("%s[%.3f, %.4f]", k != 0 ? ", " : "", ms(told.each[k].began), ms(told.each[k].length));
+        printf("%s[%.3f, %.4f, %.4f]", k != 0 ? ", " : "", ms(told.each[k].began), ms(told.each[k].length),
+               ms(told.each[k].processor));
     printf("]}\n");
     return 0;
 }

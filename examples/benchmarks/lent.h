@@ -1,35 +1,15 @@
-/* lent.h: what the back ends of ours at rest share: tables that are kept, and all roots in one array. */
+/* lent.h: what the back ends of ours at rest share that collect by tables which are kept. */
 #ifndef LENT_H
 #define LENT_H
 
-#include "native.h"
+#include "roots.h"
 
 static compressor_tables tables;
-static uint64_t *all_roots;
-
-/* The value of an answer; ends the program if the call was refused. */
-static inline uint64_t done(compressor_answer answer) {
-    if (answer.status != COMPRESSOR_DONE) die(compressor_status_text(answer.status));
-    return answer.value;
-}
 
 static inline void lent_in(uint64_t *words, size_t room) {
     done(compressor_tables_reserve(room, &tables));
-    all_roots = zeroed_words(MOST_THREADS * (size_t)MOST_ROOTS);
-    space.room = room;
-    space_moved(words, 0);
+    roots_in(words, room);
 }
 static inline void lent_start(size_t room) { lent_in(zeroed_words(room), room); }
-
-/* The roots of all mutators go into the array, and back. */
-static inline size_t roots_gather(void) {
-    size_t count = 0;
-    EACH_ROOT(root) all_roots[count++] = *root;
-    return count;
-}
-static inline void roots_scatter(void) {
-    size_t count = 0;
-    EACH_ROOT(root) *root = all_roots[count++];
-}
 
 #endif

@@ -28,7 +28,7 @@ static struct {
     uint64_t longest_pause;
     uint64_t most_live;     /* words, the most that were left by one */
     struct {
-        uint64_t began, length; /* from the beginning of the run on */
+        uint64_t began, length, processor; /* from the beginning of the run on */
     } each[MOST_PAUSES];
 } told;
 
@@ -36,6 +36,7 @@ static inline void tell_collection(uint64_t processor, uint64_t pause, uint64_t 
     if (told.count < MOST_PAUSES) {
         told.each[told.count].began = wall_time() - pause - told.began;
         told.each[told.count].length = pause;
+        told.each[told.count].processor = processor;
     }
     told.count++;
     told.processor += processor;

@@ -5,17 +5,18 @@ import math
 from xml.sax.saxutils import escape
 
 GROUPS = (  # what the legend says, the colour, the back ends
-    ("Meldhawthorn at rest", "#1b6ca8", ("rest", "rest-copy", "rest-4", "rest-job", "touch-inline", "touch-trap")),
+    ("Meldhawthorn at rest", "#1b6ca8", ("rest", "rest-copy", "rest-4", "rest-job", "touch-inline", "touch-trap",
+                                         "young", "young-fixed", "young-aged")),
     ("Meldhawthorn flipped", "#8e44ad", ("flipped",)),
     ("Boehm's libgc", "#d1495b", ("boehm",)),
-    ("plain collectors", "#2a9d58", ("mark-slide", "copying")),
+    ("plain collectors", "#2a9d58", ("mark-slide", "copying", "young-plain", "plain-fixed")),
     ("malloc and free", "#8a8a8a", ("by-hand",)),
 )
 COLOURS = {it: colour for _, colour, members in GROUPS for it in members}
 WIDTH, MARGIN, GAP = 800, 14, 26  # of the picture, around it, between panels
 TOP, ROW, NAMES, NUMBERS = 24, 16, 70, 46  # of a panel: its title, a row, columns left and right of the scale
 LEAST, MOST = 1.25, 3.0  # between these a scale of ratios ends
-WAYS = ("rest", "touch-inline", "flipped", "mark-slide", "boehm")  # whose pauses are drawn over time
+WAYS = ("rest", "touch-inline", "young", "flipped", "mark-slide", "boehm")  # whose pauses are drawn over time
 PLOT = 70  # the height of their bars at most
 
 
@@ -178,7 +179,7 @@ def pauses(results):
 
 def bar_chart(it, told, low, high, width):
     """A panel of the pauses of one run, each where it was: as wide as it was long, and up to its length."""
-    full, wall, lengths = width - NAMES, told["wall"], [length for _, length in told["pauses"]]
+    full, wall, lengths = width - NAMES, told["wall"], [length for _, length, *_ in told["pauses"]]
     count, total, longest = len(lengths), sum(lengths), max(lengths)
     low, high, ticks = scale(low, high, full)
     bottom = TOP + PLOT
@@ -192,7 +193,7 @@ def bar_chart(it, told, low, high, width):
     for tick in (x for x in ticks if math.log10(x) % 1 == 0):
         shapes.append(line(NAMES, place(tick), width, place(tick), 'stroke="#ddd"'))
         shapes.append(text(NAMES - 6, place(tick) + 4, f"{tick:g}", 'text-anchor="end" font-size="10" fill="#555"'))
-    for began, length in told["pauses"]:
+    for began, length, *_ in told["pauses"]:
         x, y, long = NAMES + full * began / wall, min(place(length), bottom - 2), max(full * length / wall, 1)
         size = f'width="{long:.1f}" height="{bottom - y:.1f}"'
         shapes.append(f'<rect x="{x:.1f}" y="{y:.1f}" {size} fill="{COLOURS[it]}"/>')
@@ -212,7 +213,7 @@ def over_time(results):
 
     program = next((it for it in results.programs if runs_of(it)), None)
     runs = runs_of(program)
-    lengths = [length for told in runs.values() for _, length in told["pauses"]]
+    lengths = [length for told in runs.values() for _, length, *_ in told["pauses"]]
     low, high = min(lengths, default=1), max(lengths, default=1)
     title = f"Each pause of {program} in milliseconds, over the time of its run" if runs else "Pauses over time"
     head = "A bar is a pause: as wide as it is long, and as high, on a logarithmic scale. All runs are equally wide."
