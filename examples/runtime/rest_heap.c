@@ -9,13 +9,28 @@
       objects of more than MOST_WORDS words, each of which has words of its own.
 
    An evaluator makes objects in its own buffer. It stores a reference by release, and loads it by acquire: so whoever
-   finds an object finds its header and its fields. */
+   finds an object finds its header and its fields.
+
+   With -DYOUNG what a collection left is old, and stays in the next ones: a store marks the card of its word. Where the
+   rule of compressor_rest.h says so, or there is no room, all is collected. With -DAGING an object is old once it
+   survived two. While there are ephemerons or guardians all is collected, and what was old is not known after that. */
 #include "collector.h"
 
 #include <stdlib.h>
 #include <string.h>
 
 enum { LARGE = 50000 }; /* live words of a heap that all evaluators slide */
+
+#if defined(AGING)
+enum { IS_YOUNG = 1 };
+static const enum compressor_ages ages = COMPRESSOR_AGING;
+#elif defined(YOUNG)
+enum { IS_YOUNG = 1 };
+static const enum compressor_ages ages = COMPRESSOR_YOUNG;
+#else
+enum { IS_YOUNG = 0 };
+static const enum compressor_ages ages = COMPRESSOR_ALL;
+#endif
 
 static struct {
     compressor_space space;
@@ -28,6 +43,11 @@ static struct {
     uint64_t live;
     uint32_t parts, begun, done;
     uint64_t turns_of_all;
+    /* with -DYOUNG or -DAGING */
+    compressor_old old;
+    unsigned char *cards;
+    int wants_all; /* the next collection is one of all: there is no room, or the tables know of another memory */
+    uint64_t young_turns;
 } rest;
 
 static part collection = {"collection", 0, 0};
@@ -54,7 +74,7 @@ static const char *deal(uint64_t live) {
         uint64_t taken = 0;
         own->at = compressor_space_take(&rest.space, words, words, &taken);
         if (own->at == 0) return "OutOfMemory"; /* an edition has no more words */
-        own->end = own->at + taken;
+        own->end = own->last = own->at + taken;
     }
     rest.left = rest.space.room - rest.space.used;
     return NULL;
@@ -65,6 +85,11 @@ static const char *start(const uint64_t *words, size_t word_count) {
     if (a.status != COMPRESSOR_DONE) return "OutOfMemory";
     rest.words = (uint64_t *)calloc(all_words(), sizeof *rest.words);
     if (!rest.words || word_count > heap.options.limit) return "OutOfMemory";
+    if (IS_YOUNG) {
+        rest.cards = (unsigned char *)calloc(compressor_cards_of(all_words()), 1);
+        if (!rest.cards || compressor_old_reserve(all_words(), &rest.old).status != COMPRESSOR_DONE)
+            return "OutOfMemory";
+    }
     if (heap.options.evaluators > 1) {
         rest.second = (uint64_t *)calloc(all_words(), sizeof *rest.second);
         if (!rest.second) return "OutOfMemory";
@@ -149,6 +174,7 @@ static const char *collect_weak(void) {
     if (!fault) fault = heap_judge_after(rest.words, rest.live);
     heap_settle_weak(&rest.surveys[0], rest.words);
     compressor_survey_drop(&rest.surveys[0]);
+    rest.wants_all = 1;
     return fault;
 }
 
@@ -159,8 +185,32 @@ static void collect_in_place(void) {
     rest.live = a.value;
 }
 
+static const char *collect_old(enum compressor_ages which) {
+    compressor_answer a;
+    const char *fault = NULL;
+    /* of a collection that keeps what died old the judge would say that it kept too much */
+    if (which == COMPRESSOR_ALL) fault = heap_judge_before(rest.words, rest.space.used, NULL);
+    if (fault) return fault;
+    a = compressor_space_collect(&rest.space, &rest.old, which, rest.cards, heap.roots, heap.root_count);
+    if (a.status != COMPRESSOR_DONE) heap_broken("compressor_space_collect", a);
+    rest.live = a.value;
+    if (which == COMPRESSOR_ALL) return heap_judge_after(rest.words, rest.live);
+    rest.young_turns++;
+    return NULL;
+}
+
+/* What died old is dropped before the program is said to have no memory. */
+static const char *collect_by_age(void) {
+    const int wants_all = rest.wants_all || compressor_space_wants_all(&rest.space, &rest.old, rest.cards, 0);
+    const char *fault = collect_old(wants_all ? COMPRESSOR_ALL : ages);
+    rest.wants_all = 0;
+    return !fault && rest.live > heap.options.limit ? collect_old(COMPRESSOR_ALL) : fault;
+}
+
 static const char *collect(void) {
-    const char *fault = heap_judge_before(rest.words, rest.space.used, NULL);
+    const char *fault;
+    if (IS_YOUNG) return collect_by_age();
+    fault = heap_judge_before(rest.words, rest.space.used, NULL);
     if (fault) return fault;
     if (heap.options.evaluators == 1 || heap.live <= LARGE || !collect_by_all()) collect_in_place();
     return heap_judge_after(rest.words, rest.live);
@@ -179,6 +229,8 @@ static void wake(void) {}
 static const char *end(void) {
     heap_drop_weak();
     compressor_tables_drop(&rest.tables);
+    compressor_old_return(&rest.old);
+    free(rest.cards);
     free(rest.words);
     free(rest.second);
     return NULL;
@@ -187,6 +239,7 @@ static const char *end(void) {
 static void tell(FILE *to) {
     heap_tell_parts(to, &collection, 1);
     fprintf(to, "collections by all evaluators %llu\n", (unsigned long long)rest.turns_of_all);
+    if (IS_YOUNG) fprintf(to, "collections of what is young %llu\n", (unsigned long long)rest.young_turns);
 }
 
 /* Objects. */
@@ -195,6 +248,7 @@ static void tell(FILE *to) {
 static uint64_t make_large(evaluator *e, uint64_t header, uint64_t words) {
     uint64_t made, taken = 0;
     while ((made = compressor_space_take(&rest.space, words, words, &taken)) == 0) {
+        __atomic_store_n(&rest.wants_all, 1, __ATOMIC_RELAXED);
         heap_collect(e);
         if (words > rest.left) heap_fail(e, "OutOfMemory", "");
     }
@@ -221,8 +275,13 @@ static void ref(evaluator *e, slot to, slot object, uint32_t field) {
     e->stack[to] = compressor_load_acquire(&rest.space, e->stack[object], field);
 }
 
+static void store(uint64_t object, uint64_t k, uint64_t value) {
+    if (IS_YOUNG) compressor_store_card(&rest.space, rest.cards, object, k, value);
+    else compressor_store_release(&rest.space, object, k, value);
+}
+
 static void set_ref(evaluator *e, slot object, uint32_t field, slot value) {
-    compressor_store_release(&rest.space, e->stack[object], field, e->stack[value]);
+    store(e->stack[object], field, e->stack[value]);
 }
 
 /* Where weak word or data word `field` of an object is, counted behind its header: no object has both. */
@@ -245,7 +304,8 @@ static void weak(evaluator *e, slot to, slot object, uint32_t field) {
 }
 
 static void set_weak(evaluator *e, slot object, uint32_t field, slot value) {
-    set_word(e, object, field, e->stack[value]);
+    const uint64_t at = e->stack[object];
+    store(at, place_of(at, field), e->stack[value]);
 }
 
 /* An edition's most words of an object: whether there is so much room is another question. */
