@@ -138,6 +138,10 @@ void graph_fill(const graph *g, uint64_t space, uint64_t *words);
 uint64_t *root_words(const graph *g, uint64_t space);
 uint64_t graph_end(const graph *g); /* the first place behind all objects */
 const object *object_at(const graph *g, uint64_t place);
+/* What the live objects on the stack, `deep` of them, reach is live; or a root that was not. Answers how many objects
+   were taken from the stack, which has room for all of the graph. */
+size_t graph_follow(graph *g, value *stack, size_t deep);
+size_t graph_follow_root(graph *g, value *stack, value root);
 /* What the roots reach, and some objects more if asked for, is live. Answers how many objects are. */
 size_t graph_trace(graph *g, int more);
 uint64_t live_words(const graph *g);

@@ -147,25 +147,35 @@ uint64_t *root_words(const graph *g, uint64_t space) {
     return words;
 }
 
+size_t graph_follow(graph *g, value *stack, size_t deep) {
+    size_t found = 0;
+    while (deep > 0) {
+        const object *o = &g->objects[stack[--deep] - 1];
+        found++;
+        for (uint32_t f = 0; f < o->shape.refs; f++) {
+            const value v = o->fields[f];
+            if (!is_object(v) || g->objects[v - 1].is_live) continue;
+            g->objects[v - 1].is_live = 1;
+            stack[deep++] = v;
+        }
+    }
+    return found;
+}
+
+size_t graph_follow_root(graph *g, value *stack, value root) {
+    if (!is_object(root) || g->objects[root - 1].is_live) return 0;
+    g->objects[root - 1].is_live = 1;
+    stack[0] = root;
+    return graph_follow(g, stack, 1);
+}
+
 size_t graph_trace(graph *g, int more) {
     value *stack = (value *)zeros(g->count, sizeof *stack);
-    size_t deep = 0, found = 0;
+    size_t found = 0;
     for (size_t i = 0; i < g->count; i++) g->objects[i].is_live = 0;
     for (size_t k = 0; k < g->root_count + (more ? 5 : 0); k++) {
         const value root = k < g->root_count ? g->roots[k] : any_value(g);
-        if (!is_object(root) || g->objects[root - 1].is_live) continue;
-        g->objects[root - 1].is_live = 1;
-        stack[deep++] = root;
-        while (deep > 0) {
-            const object *o = &g->objects[stack[--deep] - 1];
-            found++;
-            for (uint32_t f = 0; f < o->shape.refs; f++) {
-                const value v = o->fields[f];
-                if (!is_object(v) || g->objects[v - 1].is_live) continue;
-                g->objects[v - 1].is_live = 1;
-                stack[deep++] = v;
-            }
-        }
+        found += graph_follow_root(g, stack, root);
     }
     free(stack);
     return found;

@@ -50,22 +50,8 @@ static void trace(aged *s, enum way way) {
         g->objects[i].is_live = way != ALL && is_old(s, &g->objects[i]);
         if (g->objects[i].is_live) stack[deep++] = i + 1;
     }
-    for (size_t k = 0; k <= g->root_count; k++) {
-        const value root = k < g->root_count ? g->roots[k] : 0;
-        if (is_object(root) && !g->objects[root - 1].is_live) {
-            g->objects[root - 1].is_live = 1;
-            stack[deep++] = root;
-        }
-        while (deep > 0) {
-            const object *o = &g->objects[stack[--deep] - 1];
-            for (uint32_t f = 0; f < o->shape.refs; f++) {
-                const value v = o->fields[f];
-                if (!is_object(v) || g->objects[v - 1].is_live) continue;
-                g->objects[v - 1].is_live = 1;
-                stack[deep++] = v;
-            }
-        }
-    }
+    graph_follow(g, stack, deep);
+    for (size_t k = 0; k < g->root_count; k++) graph_follow_root(g, stack, g->roots[k]);
     free(stack);
 }
 
