@@ -10,7 +10,7 @@ use heap_layout::is_set;
 
 /// The first bit from `i` on that is set; the number of all bits if there is none.
 #[inline(always)]
-pub(crate) fn next_set(bits: &[u64], i: usize) -> usize
+pub fn next_set(bits: &[u64], i: usize) -> usize
     requires few { length bits.now ≤ 2 ^ 25 }
     requires known { i < 64 * length bits.now }
     ensures from { i ≤ result }

@@ -17,6 +17,8 @@
 //! written to is looked at again, no part that slides is refused. Several markers look at a heap each in a `Lane` of its
 //! own; lanes are joined at the end.
 //!
+//! `Places::live_bits`, `next_set` and `shape_of` are for crates that slide in a way of their own.
+//!
 //! A root that is not handed in is lost. The addresses before and after a collection are numbers of one range, so one
 //! that was kept elsewhere, or is forwarded twice, may be that of another object. During a call no other thread may
 //! write to the words, the roots or the memory into which they slide.
@@ -82,6 +84,7 @@ pub use fault::{
     LentFault, LookFault, MarksFault, MarksLentFault, MeetFault, Missing, SlideFault, SurveyFault,
 };
 pub use finalizing::Ordered;
+pub use finding::next_set;
 pub use given::{collect_by_bits, slid_is_sound};
 pub use growing::{Growing, NotGrown};
 pub use growth::{Growth, NotGrowth};
@@ -94,7 +97,8 @@ pub use laws::{
     reached_is_one, sound_has_no_fault, steps_are_one, words_now_are_settled,
 };
 pub use looks::{Looks, clean_is_same, same_is_looked};
-pub use places::Places;
+pub use places::{LiveBits, Places};
+pub use shape::{Shape, shape_of};
 pub use survey::Survey;
 pub use tables::{NotSurveyed, NotTaken, Tables};
 pub use threads::collect_by_threads;

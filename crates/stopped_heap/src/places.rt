@@ -1,7 +1,9 @@
 //! What a survey found, kept without the words.
 ghost use Rattle.std.specs.Prelude.{◌≡◌, ℕ, ◌<◌, false, true, cond, drop, length, map, slice_index, take, All, IfErr, OnErr, OnOk};
 ghost use Rattle.heap_layout.specs.Heap.{is_value, IsValue};
+ghost use Rattle.mark_tables.specs.MarkBitmap.{set_bits, AreOffsets};
 ghost use Rattle.stopped_heap.specs.Places.{led_by, words_now, IsAsFound, IsSlideFault};
+ghost use Rattle.stopped_heap.specs.Surveys.{marks_of};
 ghost use Rattle.stopped_heap.specs.declared.fault.SlideFault.TheVariants as slide;
 
 use crate::fault::SlideFault;
@@ -11,6 +13,16 @@ use crate::tables::Tables;
 use crate::trying::try_slide_part;
 use heap_layout::Edition;
 use std::marker::Model;
+
+/// The tables of a survey, to be read: a bit for each word, 64 of them in each block.
+pub struct LiveBits<'t> {
+    /// The bits of the first words of live objects.
+    pub heads: &'t [u64],
+    /// The bits of all words of live objects.
+    pub bits: &'t [u64],
+    /// How many of `bits` are set before each block, and last how many are set in all.
+    pub counts: &'t [u32],
+}
 
 /// What a survey found, without the words that it looked at. Nothing is borrowed, so anything may have been written to
 /// the words since; no call asks that they are as they were. Contracts see what was found: the edition, the number of
@@ -49,6 +61,34 @@ impl Places {
         ensures { result ≡ length self.now.indices }
     {
         u64::from(self.counts[self.bits.len()])
+    }
+
+    /// The edition of the heap.
+    pub fn edition(&self) -> Edition
+        ensures { result ≡ self.now.edition }
+    {
+        self.edition
+    }
+
+    /// How many words were surveyed.
+    pub fn count(&self) -> usize
+        ensures { result ≡ self.now.count }
+    {
+        self.count
+    }
+
+    /// Its tables, for a slide of the caller's own.
+    pub fn live_bits(&self) -> LiveBits<'_>
+        ensures marks { marks_of result.heads.now ≡ self.now.marks }
+        ensures indices { set_bits result.bits.now ≡ self.now.indices }
+        ensures offsets { AreOffsets result.bits.now result.counts.now }
+        ensures same { length result.heads.now ≡ length result.bits.now }
+    {
+        LiveBits {
+            heads: &self.heads,
+            bits: &self.bits,
+            counts: &self.counts,
+        }
     }
 
     /// Fills a part of the memory into which the heap slides, from word `first` on, with the words of the objects as

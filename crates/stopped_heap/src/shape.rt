@@ -7,7 +7,7 @@ use heap_layout::Edition;
 
 /// How many references and weak words an object has, and how many words with its header.
 #[derive(Clone, Copy)]
-pub(crate) struct Shape {
+pub struct Shape {
     pub refs: usize,
     pub weak: usize,
     pub size: usize,
@@ -47,7 +47,7 @@ fn long_shape(word: u64) -> Shape
 
 /// The shape of the object with this header. `Header` says the same, with a look at its form for each number.
 #[inline(always)]
-pub(crate) fn shape_of(edition: Edition, word: u64) -> Shape
+pub fn shape_of(edition: Edition, word: u64) -> Shape
     ensures refs { result.refs ≡ refs_of (header_of edition word) }
     ensures weak { result.weak ≡ weak_of (header_of edition word) }
     ensures size { result.size ≡ size_of (header_of edition word) }
