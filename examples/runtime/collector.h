@@ -1,4 +1,4 @@
-/* collector.h: what heap.c and a collector, rest_heap.c or flip_heap.c, offer to one another. */
+/* collector.h: what heap.c and a collector, as rest_heap.c, offer to one another. */
 #ifndef COLLECTOR_H
 #define COLLECTOR_H
 
@@ -21,7 +21,8 @@ struct collector {
     const char *(*start)(const uint64_t *words, size_t word_count);
     /* The evaluator has stopped. */
     const char *(*arrive)(evaluator *e);
-    /* All have: collects. The roots are in heap.roots, and are put back there. It may leave the lock for a while. */
+    /* All have: collects, or does what it does in a stop within a cycle (heap.is_within). The roots are in heap.roots,
+       and are put back there. It may leave the lock for a while. */
     const char *(*turn)(void);
     /* An evaluator has stopped while others have not, or while the turn is made: does a part of the turn, if one waits.
        Answers whether it did. It is called under the lock, which it leaves for a while. */
@@ -43,7 +44,7 @@ struct collector {
     void (*set_weak)(evaluator *e, slot object, uint32_t field, slot value);
 };
 
-extern const collector collector_at_rest, collector_flipped;
+extern const collector collector_at_rest, collector_by_touch, collector_flipped;
 
 /* What evaluators and the collector share, by one lock. */
 struct heap {
@@ -54,7 +55,10 @@ struct heap {
     uint64_t *roots;       /* of all stacks, gathered while all are stopped */
     size_t root_count;
     uint64_t live;         /* words, after the last collection */
+    uint64_t began;        /* when it started, in nanoseconds */
     uint64_t cycles;
+    uint64_t turns;
+    int is_within;         /* a cycle goes on after this turn */
     uint32_t stopped;      /* evaluators at the safepoint */
     int stopping;          /* evaluators are to stop; read without the lock too */
     int ending;            /* the program ends */
@@ -65,6 +69,11 @@ extern struct heap heap;
 /* The header word of a shape, and a new object of it. */
 uint64_t heap_shape_header(compressor_shape shape);
 void heap_make(evaluator *e, slot to, compressor_shape shape);
+
+/* Wants a stop, and waits until its turn was made. */
+void heap_meet(evaluator *e);
+/* Wants a stop, for another thread than an evaluator's, which does not wait. The lock is held. */
+void heap_want_stop(void);
 
 /* weak_heap.c: ephemerons and guards, for a heap at rest. Called under the lock. */
 /* Are there any? */
@@ -102,6 +111,8 @@ typedef struct part {
 } part;
 
 uint64_t heap_now(void);
+/* pauses.c: keeps a pause for heap_tell_pauses. The lock is held. 0 if there is no memory. */
+int heap_keep_pause(const evaluator *e, uint64_t since, uint64_t length);
 static inline void heap_raise(uint64_t *most, uint64_t value) {
     if (value > *most) *most = value;
 }

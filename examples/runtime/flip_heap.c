@@ -247,6 +247,10 @@ static void tell(FILE *to) {
 /* The calls of a mutator. Each is made again until it is settled. It takes its addresses from the slots each time: a
    collection may have come in between. */
 
+static uint64_t call_began(void) {
+    return heap.options.measured ? heap_now() : 0;
+}
+
 static int settled(evaluator *e, compressor_answer a, const char *call) {
     if (e->began) heap_raise(&e->slowest_call, heap_now() - e->began);
     switch (a.status) {
@@ -278,7 +282,7 @@ static void make(evaluator *e, slot to, compressor_shape shape) {
     const uint64_t header = heap_shape_header(shape);
     compressor_answer a;
     do {
-        e->began = heap_now();
+        e->began = call_began();
         a = compressor_mutator_alloc(&e->mutator, header);
     } while (!settled(e, a, "compressor_mutator_alloc"));
     e->stack[to] = a.value;
@@ -288,7 +292,7 @@ static void make(evaluator *e, slot to, compressor_shape shape) {
 static uint32_t kind_of(evaluator *e, slot object) {
     compressor_answer a;
     do {
-        e->began = heap_now();
+        e->began = call_began();
         a = compressor_mutator_header(&e->mutator, e->stack[object]);
     } while (!settled(e, a, "compressor_mutator_header"));
     return COMPRESSOR_TAG_OF(a.value);
@@ -297,7 +301,7 @@ static uint32_t kind_of(evaluator *e, slot object) {
 static void ref(evaluator *e, slot to, slot object, uint32_t field) {
     compressor_answer a;
     do {
-        e->began = heap_now();
+        e->began = call_began();
         a = compressor_mutator_read_ref(&e->mutator, e->stack[object], field);
     } while (!settled(e, a, "compressor_mutator_read_ref"));
     e->stack[to] = a.value;
@@ -306,7 +310,7 @@ static void ref(evaluator *e, slot to, slot object, uint32_t field) {
 static void set_ref(evaluator *e, slot object, uint32_t field, slot value) {
     compressor_answer a;
     do {
-        e->began = heap_now();
+        e->began = call_began();
         a = compressor_mutator_write_ref(&e->mutator, e->stack[object], field, e->stack[value]);
     } while (!settled(e, a, "compressor_mutator_write_ref"));
 }
@@ -314,7 +318,7 @@ static void set_ref(evaluator *e, slot object, uint32_t field, slot value) {
 static uint64_t word(evaluator *e, slot object, uint32_t field) {
     compressor_answer a;
     do {
-        e->began = heap_now();
+        e->began = call_began();
         a = compressor_mutator_read_data(&e->mutator, e->stack[object], field);
     } while (!settled(e, a, "compressor_mutator_read_data"));
     return a.value;
@@ -323,7 +327,7 @@ static uint64_t word(evaluator *e, slot object, uint32_t field) {
 static void set_word(evaluator *e, slot object, uint32_t field, uint64_t value) {
     compressor_answer a;
     do {
-        e->began = heap_now();
+        e->began = call_began();
         a = compressor_mutator_write_data(&e->mutator, e->stack[object], field, value);
     } while (!settled(e, a, "compressor_mutator_write_data"));
 }

@@ -23,7 +23,7 @@ enum { IS_STRESSED = 0 };
 #endif
 
 const collector *heap_collector(const char *name) {
-    static const collector *const all[] = {&collector_at_rest, &collector_flipped};
+    static const collector *const all[] = {&collector_at_rest, &collector_by_touch, &collector_flipped};
     size_t k;
     for (k = 0; k < sizeof all / sizeof *all; k++)
         if (strcmp(name, all[k]->name) == 0) return all[k];
@@ -92,18 +92,19 @@ static const char *turn(void) {
     fault = heap.options.by->turn();
     if (fault) return fault;
     put_back();
-    heap.cycles++;
+    heap.turns++;
+    heap.cycles += !heap.is_within;
     return NULL;
 }
 
-/* The evaluator stops until the cycle has turned, or the program ends. The lock is held. */
+/* The evaluator stops until there was a turn, or the program ends. The lock is held. */
 static void stop_here(evaluator *e, uint64_t since) {
-    uint64_t cycles = heap.cycles, pause;
+    uint64_t turns = heap.turns, pause;
     const char *fault;
     if (heap.ending) return;
     fault = heap.options.by->arrive(e);
     if (!fault && ++heap.stopped < heap.options.evaluators) {
-        while (heap.cycles == cycles && !heap.ending)
+        while (heap.turns == turns && !heap.ending)
             if (!heap.options.by->help()) pthread_cond_wait(&heap.changed, &heap.lock);
     } else {
         if (!fault) fault = turn();
@@ -116,6 +117,7 @@ static void stop_here(evaluator *e, uint64_t since) {
     e->pauses++;
     e->all_pauses += pause;
     heap_raise(&e->longest_pause, pause);
+    if (heap.options.keeps_pauses && !heap_keep_pause(e, since, pause)) heap_end_with("OutOfMemory", "");
 }
 
 /* Leaves the lock, and wakes the collector's threads, who may find a turn: an evaluator that wanted a stop leaves it
@@ -127,18 +129,29 @@ static void go_on(evaluator *e) {
     if (ending) longjmp(e->base, 1);
 }
 
-void heap_collect(evaluator *e) {
-    uint64_t since = heap_now();
-    pthread_mutex_lock(&heap.lock);
+void heap_want_stop(void) {
     __atomic_store_n(&heap.stopping, 1, __ATOMIC_SEQ_CST);
     pthread_cond_broadcast(&heap.changed); /* those who wait are to stop too */
+}
+
+void heap_meet(evaluator *e) {
+    uint64_t since = heap_now();
+    pthread_mutex_lock(&heap.lock);
+    heap_want_stop();
     stop_here(e, since);
     go_on(e);
 }
 
+void heap_collect(evaluator *e) {
+    const uint64_t cycles = heap.cycles; /* changed only while this evaluator has stopped */
+    do heap_meet(e);
+    while (heap.cycles == cycles);
+}
+
 void heap_poll(evaluator *e) {
     /* a stop does not end before this evaluator has stopped, so it is still wanted under the lock */
-    if (IS_STRESSED || __atomic_load_n(&heap.stopping, __ATOMIC_SEQ_CST)) heap_collect(e);
+    if (IS_STRESSED) heap_collect(e);
+    else if (__atomic_load_n(&heap.stopping, __ATOMIC_SEQ_CST)) heap_meet(e);
 }
 
 void heap_wait(evaluator *e, int (*is_so)(void *with), void *with) {
@@ -296,6 +309,7 @@ const char *heap_start(const struct heap_options *options, const uint64_t *words
                        const uint64_t *roots, size_t root_count) {
     const char *fault;
     heap.options = *options;
+    heap.began = heap_now();
     pthread_mutex_init(&heap.lock, NULL);
     pthread_cond_init(&heap.changed, NULL);
     pthread_mutex_lock(&heap.lock);
@@ -322,7 +336,7 @@ const char *heap_end(void) {
 
 uint64_t heap_now(void) {
     struct timespec t;
-    if (!heap.options.measured) return 0;
+    if (!heap.options.measured && !heap.options.keeps_pauses) return 0;
     clock_gettime(CLOCK_MONOTONIC, &t);
     return (uint64_t)t.tv_sec * 1000000000u + (uint64_t)t.tv_nsec;
 }

@@ -37,14 +37,14 @@ typedef struct evaluator {
     uint32_t depth;        /* of the runtime's own recursion */
     jmp_buf base;          /* where an evaluator goes on after heap_fail, in itself or in another one */
     uint64_t longest_pause, all_pauses, pauses;
-    /* at rest */
+    uint64_t slowest_call;    /* flipped and by first touch */
+    /* at rest and by first touch */
     compressor_buffer buffer; /* of new objects */
     /* flipped */
     compressor_mutator mutator;
     uint64_t allocated;    /* words of the objects made since the flip */
     uint32_t refused;      /* calls in a row that found no memory */
     uint64_t began;        /* when the present call began, in nanoseconds; 0 if nothing is measured */
-    uint64_t slowest_call;
     uint64_t busy, pages_out, journals_full; /* answers of calls */
 } evaluator;
 
@@ -54,9 +54,10 @@ struct heap_options {
     uint32_t pages;        /* for new objects of each evaluator in a cycle, 1 to MOST_PAGES */
     uint64_t limit;        /* out of memory, if more words than these are live after a cycle */
     int measured;          /* calls and pauses are timed */
+    int keeps_pauses;      /* for heap_tell_pauses */
 };
 
-/* The collector of this name, "rest" or "flip", or null. */
+/* The collector of this name, "rest", "touch" or "flip", or null. */
 const collector *heap_collector(const char *name);
 
 /* The header of an object without weak words, for the words of the first heap. A kind is a number up to 16,383. */
@@ -74,7 +75,10 @@ uint32_t heap_evaluators(void);
 uint64_t heap_cycles(void);
 /* Ends the heap, after all threads of evaluators were joined. Null, or what failed. */
 const char *heap_end(void);
+/* After the end. pauses: a line for each of an evaluator, as they ended: when it began, in microseconds since the heap
+   started, how many it took, and the evaluator's number. */
 void heap_statistics(FILE *to);
+void heap_tell_pauses(FILE *to);
 
 /* The stack. A new slot holds null. */
 slot heap_push(evaluator *e);
@@ -100,7 +104,7 @@ void heap_set_ref(evaluator *e, slot object, uint32_t field, slot value);
 uint64_t heap_word(evaluator *e, slot object, uint32_t field);
 void heap_set_word(evaluator *e, slot object, uint32_t field, uint64_t value);
 
-/* Ephemerons and guardians, of a heap at rest alone: with a flipped one each of these that makes something, and
+/* Ephemerons and guardians, of a heap at rest alone: with another one each of these that makes something, and
    heap_wants_weak, which does nothing else, ends the program (NoEphemerons).
 
    An ephemeron has one reference field, which is the runtime's, a key and a value. The key is not null. The value lives

@@ -10,10 +10,12 @@
 #define STACK_BYTES ((size_t)256 << 20) /* of C, for each evaluator: enough for MOST_DEPTH */
 
 static const char usage[] =
-    "usage: lisp [--collector rest|flip] [--evaluators 1..4] [--pages 1..512] [--limit WORDS] [--statistics] PROGRAM\n";
+    "usage: lisp [--collector rest|touch|flip] [--evaluators 1..4] [--pages 1..512] [--limit WORDS] [--statistics]\n"
+    "            [--pauses FILE] PROGRAM\n";
 
 static char *program;
 static size_t program_length;
+static const char *pauses_path; /* null if none is asked for */
 
 /* Evaluator 0 reads and evaluates the program; the others help. */
 static void *run(void *given) {
@@ -121,6 +123,10 @@ static const char *read_options(char **words, struct heap_options *options) {
             if (!number_in(*++words, 1, (uint64_t)1 << 31, &options->limit)) return NULL;
         } else if (strcmp(*words, "--statistics") == 0) {
             options->measured = 1;
+        } else if (strcmp(*words, "--pauses") == 0) {
+            pauses_path = *++words;
+            if (!pauses_path) return NULL;
+            options->keeps_pauses = 1;
         } else if (path || **words == '-') {
             return NULL;
         } else {
@@ -130,20 +136,50 @@ static const char *read_options(char **words, struct heap_options *options) {
     return path;
 }
 
+/* The most memory that was resident, in KiB; 0 if the system does not say. */
+static unsigned long peak_memory(void) {
+    char line[128];
+    unsigned long kib = 0;
+    FILE *f = fopen("/proc/self/status", "r");
+    while (f && fgets(line, sizeof line, f))
+        if (sscanf(line, "VmHWM: %lu", &kib) == 1) break;
+    if (f) fclose(f);
+    return kib;
+}
+
+/* Null, or the name of an error. */
+static const char *write_pauses(void) {
+    FILE *f = fopen(pauses_path, "w");
+    int failed;
+    if (!f) return "CannotOpen(pauses)";
+    heap_tell_pauses(f);
+    failed = ferror(f);
+    return fclose(f) != 0 || failed ? "WriteFailed(pauses)" : NULL;
+}
+
+/* Reads and runs the program. */
+static const char *run_program(const char *path, const struct heap_options *options) {
+    const char *error = read_program(path);
+    if (error) return error;
+    error = start(options);
+    if (!error) run_all();
+    error = heap_end();
+    if (options->measured) {
+        heap_statistics(stderr);
+        fprintf(stderr, "peak memory %lu KiB\n", peak_memory());
+    }
+    if (pauses_path && !error) error = write_pauses();
+    return error;
+}
+
 int main(int count, char **words) {
-    struct heap_options options = {heap_collector("rest"), 2, 32, (uint64_t)1 << 22, 0};
+    struct heap_options options = {heap_collector("rest"), 2, 32, (uint64_t)1 << 22, 0, 0};
     const char *error, *path = count > 0 ? read_options(words + 1, &options) : NULL;
     if (!path) {
         fputs(usage, stderr);
         return 2;
     }
-    error = read_program(path);
-    if (!error) {
-        error = start(&options);
-        if (!error) run_all();
-        error = heap_end();
-        if (options.measured) heap_statistics(stderr);
-    }
+    error = run_program(path, &options);
     free(program);
     if (error) return told(error);
     return fflush(stdout) != 0 || ferror(stdout) ? told("CannotPrint") : 0;
