@@ -1,0 +1,6 @@
+pub mod Pins
+pub mod Tables
+pub mod Around
+pub mod Listing
+pub mod Pinned
+pub mod Collecting

@@ -1,0 +1,116 @@
+//! A collection within the memory of the heap, around objects that stay.
+ghost use Rattle.std.specs.Prelude.{◌≡◌, ℕ, ◌++◌, ◌≤◌, length, All, IfErr, IfOk, OnErr, OnOk};
+ghost use Rattle.heap_layout.specs.Heap.{IsValue};
+ghost use Rattle.pinned_heap.specs.Collecting.{refused_with, AreFewWith, HasCollectedAround, RefusesPinned};
+ghost use Rattle.stopped_heap.specs.Growth.{IsFoundIn};
+ghost use Rattle.stopped_heap.specs.Reached.{AreReached};
+
+use crate::fault::{CollectPinnedFault, PinFault};
+use crate::pinned::Pinned;
+use crate::run::Run;
+use heap_layout::Edition;
+use std::alloc::Global;
+use stopped_heap::{Growing, Places, SurveyFault};
+
+/// What a collection around objects that stay has left.
+#[derive(Drop)]
+pub struct Collected {
+    /// Where the last live object ends: all words from there on are free.
+    pub end: u64,
+    /// The free words below that, in runs: one right before each object that stayed, unless it has no words.
+    pub runs: Vec<Run>,
+}
+
+// The fault of a survey that went on from the pins.
+fn pin_fault(fault: SurveyFault) -> CollectPinnedFault
+    ensures { result ≡ refused_with fault }
+{
+    match fault {
+        SurveyFault::BadRoot(k) => CollectPinnedFault::BadPin(k),
+        other => CollectPinnedFault::Survey(other),
+    }
+}
+
+// Finds what the roots and the pins reach.
+fn survey_with(
+    alloc: Global,
+    edition: Edition,
+    words: &[u64],
+    roots: &[u64],
+    pins: &[u64],
+) -> Result<Places, CollectPinnedFault>
+    ensures found { IfOk result (λ places. IsFoundIn places words.now) }
+    ensures edition { IfOk result (λ places. places.edition ≡ edition) }
+    ensures reached { IfOk result (λ places. AreReached edition words.now (roots.now ++ pins.now) places.marks) }
+    ensures leads { IfOk result (λ places. All (IsValue edition places.marks) roots.now) }
+    ensures few { OnOk result (AreFewWith edition words.now roots.now pins.now) }
+    ensures fault { (most : ℕ) → IfErr result (RefusesPinned edition words.now roots.now pins.now most) }
+{
+    if words.len() > edition.max_words()
+        || roots.len() > edition.max_roots()
+        || pins.len() > edition.max_roots()
+    {
+        return Err(CollectPinnedFault::Survey(SurveyFault::TooLarge));
+    }
+    let begun = match Growing::begin(alloc, edition, words) {
+        Ok(begun) => begun,
+        Err(fault) => return Err(CollectPinnedFault::Survey(fault)),
+    };
+    let rooted = match begun.also(roots) {
+        Ok(rooted) => rooted,
+        Err(refused) => return Err(CollectPinnedFault::Survey(refused.fault)),
+    };
+    let grown = match rooted.also(pins) {
+        Ok(grown) => grown,
+        Err(refused) => return Err(pin_fault(refused.fault)),
+    };
+    Ok(grown.settle().release())
+}
+
+/// Collects the heap of these words and roots within the words, and leaves the objects at the pins where they are: their
+/// addresses stay. Each pin keeps its object, and what that reaches, as a root does. The other objects slide down around
+/// them, each behind the one before, and the roots lead there. Ok with where the last object ends, and with the runs of
+/// free words below it; each run is filled with objects that nobody looks at. The words behind the last object are as
+/// they were. Without pins it leaves what `collect_in_place` of stopped_heap does (`without_pins_in_place`).
+///
+/// Err if the heap is refused, if a pin is not the address of a word, if it would leave more than `most` runs, or if
+/// memory runs out; then neither the words nor the roots have changed. There are never more runs than pins. Beside what
+/// a survey takes it takes a bit a word, 4 bytes for each 64 words, and 16 bytes a run.
+pub fn collect_pinned(
+    alloc: Global,
+    edition: Edition,
+    words: &mut [u64],
+    roots: &mut [u64],
+    pins: &[u64],
+    most: usize,
+) -> Result<Collected, CollectPinnedFault>
+    ensures collected { IfOk result (λ left. HasCollectedAround edition words.old roots.old pins.now left.end left.runs.items roots.new words.new) }
+    ensures few { IfOk result (λ left. length left.runs.items ≤ most) }
+    ensures fault { IfErr result (RefusesPinned edition words.old roots.old pins.now most) }
+    ensures words_stay { OnErr result (words.new ≡ words.old) }
+    ensures roots_stay { OnErr result (roots.new ≡ roots.old) }
+{
+    let places = match survey_with(alloc, edition, words, roots, pins) {
+        Ok(places) => places,
+        Err(fault) => return Err(fault),
+    };
+    let pinned = match Pinned::of(alloc, &places, pins) {
+        Ok(pinned) => pinned,
+        Err(PinFault::BadPin(k)) => return Err(CollectPinnedFault::BadPin(k)),
+        Err(PinFault::OutOfMemory) => {
+            return Err(CollectPinnedFault::Survey(SurveyFault::OutOfMemory));
+        }
+    };
+    let count = pinned.runs().len();
+    if count > most {
+        return Err(CollectPinnedFault::TooManyRuns(count as u64));
+    }
+    pinned.slide_within(words);
+    // Each root was met, so none leads astray, and none becomes null.
+    pinned.forward_weak(roots);
+    let end = pinned.end();
+    Ok(Collected {
+        end,
+        runs: pinned.into_runs(),
+    })
+}

@@ -1,0 +1,28 @@
+//! A collection of a heap at rest that leaves some objects where they are: those that a runtime has pinned, since words of
+//! a C stack may be their addresses, or a system call fills their words. All others slide as ever, each behind the one
+//! before it, in the order of their addresses. So nothing moves up, and the free words below the last live object lie in
+//! runs, one right before each pinned object.
+#![tactic(auto)]
+
+mod bases;
+mod collecting;
+mod fault;
+mod filling;
+mod laws;
+mod listing;
+mod pinned;
+mod pinning;
+mod placing;
+mod run;
+mod sliding;
+#[cfg(test)]
+mod tests;
+
+pub use collecting::{Collected, collect_pinned};
+pub use fault::{CollectPinnedFault, PinFault};
+pub use laws::{
+    gaps_rise, nothing_moves_up, places_are_a_placement, places_are_sums, places_are_the_least,
+    without_pins_all_slides, without_pins_in_place,
+};
+pub use pinned::Pinned;
+pub use run::Run;
