@@ -50,6 +50,7 @@ VARIANTS = {
     "DumpFault::BadField": "FILE_BAD_FIELD",
     "DumpFault::Device": "OUT_OF_MEMORY",
     "CollectFault::NoRoom": "TOO_SHORT",
+    "CollectPinnedFault::TooManyRuns": "TOO_SHORT",
     "BitsFault::ShortObjects": "BAD_EDITION",
     "BitsFault::PastEnd": "OBJECT_PAST_END",
     "TurnFault::OtherRoom": "OTHER_LENGTH",

@@ -7,7 +7,8 @@
      cycle.c     flips, crews and mutators by one thread; act.c has what a mutator is asked
      end.c       finished cycles, next heaps
      rest.c      heaps at rest; looks.c their marking by looks, lanes.c by lanes at first; growing.c surveys that grow;
-                 old.c young collections; pages.c slides by pages; faults.c what is refused
+                 old.c young collections; pinned.c those around pins; pages.c slides by pages; faults.c what is refused
+     pins.c      heaps at rest whose stack is scanned
      handles.c   empty, full and wrong handles; limits.c editions: shapes, immediates, what is too large
      threads.c   a cycle by four threads; together.c what else they do together */
 #ifndef DRIVER_H
@@ -252,7 +253,9 @@ compressor_answer grow_by_fault(uint32_t edition, const uint64_t *words, uint64_
 /* Young collections of a copy of these words, which are the graph; that is afterwards as they left it. */
 void old_round(graph *g, const uint64_t *words, uint64_t count);
 void slide_pages(compressor_survey *survey, const uint64_t *words, uint64_t count, uint64_t live, uint64_t *to);
+uint64_t pinned_round(graph *g, uint64_t *words, uint64_t count);
 void rest_faults(graph *g, const uint64_t *words, uint64_t count);
+void pins_round(void);
 void handles_round(void);
 void limits_round(void);
 void check_words(void);

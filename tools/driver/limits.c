@@ -60,7 +60,7 @@ static void largest(compressor_end *end) {
 void limits_round(void) {
     enum { ROOTS = 4097 };
     uint64_t *roots = (uint64_t *)zeros(ROOTS, sizeof *roots);
-    uint64_t words[2] = {0, 0}, to[2] = {0, 0};
+    uint64_t words[2] = {0, 0}, to[2] = {0, 0}, runs = 0;
     compressor_heap heap = COMPRESSOR_EMPTY;
     compressor_survey survey = COMPRESSOR_EMPTY;
     compressor_tables tables = COMPRESSOR_EMPTY;
@@ -81,6 +81,8 @@ void limits_round(void) {
         ANSWERS(COMPRESSOR_TOO_LARGE, 0, heap_by_marks, edition, words, 2, marks, 0, roots, ROOTS, &heap);
         ANSWERS(COMPRESSOR_TOO_LARGE, 0, collect, edition, words, 2, roots, ROOTS, to, 2);
         ANSWERS(COMPRESSOR_TOO_LARGE, 0, collect_in_place, edition, words, 2, roots, ROOTS);
+        ANSWERS(COMPRESSOR_TOO_LARGE, 0, collect_pinned, edition, words, 2, roots, ROOTS, to, 0, to, 2, &runs);
+        ANSWERS(COMPRESSOR_TOO_LARGE, 0, collect_pinned, edition, words, 2, to, 0, roots, ROOTS, to, 2, &runs);
         ANSWERS(COMPRESSOR_TOO_LARGE, 0, collect_lent, &tables, edition, words, 2, roots, ROOTS, to, 2);
         ANSWERS(COMPRESSOR_TOO_LARGE, 0, collect_all, &old, edition, words, 2, roots, ROOTS);
         ANSWERS(COMPRESSOR_TOO_LARGE, 0, collect_young, &old, edition, words, 2, bytes, 1, roots, ROOTS);

@@ -377,12 +377,17 @@ static bits bits_of(const rest *r) {
 void rest_round(graph *g, uint64_t *words, uint64_t count) {
     rest all = {g, words, count, NULL, NULL, NULL, NULL, 0}, *r = &all;
     for (uint64_t times = 1 + below(8); times > 0; times--) {
-        const uint64_t how = below(11);
+        const uint64_t how = below(12);
         bits b;
         go_on(r);
         expect(r, how == 5 || how == 8);
         if (one_in(3)) rest_faults(g, r->words, r->count);
         if (one_in(2)) growing_round(g, r->words, r->count);
+        if (how == 11) {
+            r->count = pinned_round(g, r->words, r->count);
+            free(r->roots);
+            continue;
+        }
         b = bits_of(r);
         slid(r);
         if (how < 4) collect_at_once(r, how);

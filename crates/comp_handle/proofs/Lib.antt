@@ -5,6 +5,7 @@ mod Whys
 mod Crossing
 mod Dumps
 mod Lengths
+mod RunWords
 mod Refusing
 mod Counts
 mod Rests

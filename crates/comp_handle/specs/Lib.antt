@@ -31,5 +31,6 @@ pub mod Moves
 pub mod Guarding
 pub mod Growing
 pub mod Young
+pub mod Pinning
 pub mod Paging
 pub mod Touching

@@ -121,7 +121,8 @@ typedef enum compressor_status {
     COMPRESSOR_NOT_BUILT = 20,        /* (page) nobody built it: it has the words of the plan (compressor_plan_page),
                                          or zeros if fresh; of a slide: its turn is had, and it is not built yet */
     COMPRESSOR_NO_SUCH_ENTRY = 21,    /* (number) */
-    COMPRESSOR_TOO_SHORT = 22,        /* (length; which) the buffer is shorter; which is 0 but of compressor_end_rest */
+    COMPRESSOR_TOO_SHORT = 22,        /* (length; which) the buffer is shorter; which is 0 but of compressor_end_rest.
+                                         Of compressor_collect_pinned (runs) */
     COMPRESSOR_NO_SUCH_BUILD = 23,    /* (number) */
     COMPRESSOR_NO_SUCH_MUTATOR = 24,  /* (number) */
     /* calls of a heap at rest */
@@ -199,6 +200,8 @@ typedef enum compressor_status {
                                          them, and here the row does not go on: a header was changed */
     COMPRESSOR_LEADS_ABOVE = 225,     /* (index of the word) it is a reference or a weak word of an old object, its card
                                          is clean, and it leads to no old object */
+    /* collections around objects that stay */
+    COMPRESSOR_BAD_PIN = 226,         /* (number) it is the address of none of the words; it may be null */
     COMPRESSOR_WRONG_HANDLE = 255         /* a handle of another kind: a cast, a byte that C wrote, or a survey that was
                                              to grow and is over (compressor_growing_return) */
 } compressor_status;
@@ -444,6 +447,7 @@ static inline const char *compressor_status_text(uint32_t status) {
         COMPRESSOR_CASE_(NOT_A_FIELD)
         COMPRESSOR_CASE_(NOT_A_ROW)
         COMPRESSOR_CASE_(LEADS_ABOVE)
+        COMPRESSOR_CASE_(BAD_PIN)
         COMPRESSOR_CASE_(WRONG_HANDLE)
 #undef COMPRESSOR_CASE_
         default: return "UNKNOWN";
@@ -480,6 +484,21 @@ compressor_answer compressor_collect(uint32_t edition, const uint64_t *words, si
                                      size_t root_count, uint64_t *to, size_t to_count);
 compressor_answer compressor_collect_in_place(uint32_t edition, uint64_t *words, size_t word_count, uint64_t *roots,
                                               size_t root_count);
+
+/* As collect_in_place, but the objects at the pins stay where they are: a pin is the address of an object, and keeps it
+   as a root does. Pins come in any order, also several times. The others slide down around them, each behind the one
+   before it, so none moves up. Answers where the last live object ends, an index: the words from there on are free, and
+   as they were. Free too are run_count runs of words below it, each right before a pin: run k is the words from index
+   runs[2 * k] on up to index runs[2 * k + 1], which is none of them. A run is a row of dead objects then: zeros in
+   editions 1 and 2, else one of data, behind whose header the words are anything. There are never more runs than pins,
+   so 2 * pin_count words always have room. Without pins it leaves what collect_in_place does. Tables take what those of
+   a survey do, a bit a word and 4 bytes for each 64 words more, and 16 bytes a run. Refusals, after which all is as it
+   was, `runs` and `run_count` too: as of collect_in_place, TOO_LARGE also of more pins than there may be roots, and a
+   fault also of what pins reach; BAD_PIN (its number), also of null and of immediates; TOO_SHORT (the runs), if `runs`
+   has fewer than two words for each. */
+compressor_answer compressor_collect_pinned(uint32_t edition, uint64_t *words, size_t word_count, uint64_t *roots,
+                                            size_t root_count, const uint64_t *pins, size_t pin_count, uint64_t *runs,
+                                            size_t run_words, uint64_t *run_count);
 
 /* A survey: which objects are live, and where they slide. It has nothing of the words. Answers the live words.
    by_roots: live is what the roots reach; refusals as above, but TOO_SHORT. by_marks: live are the objects at the bits

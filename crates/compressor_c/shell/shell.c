@@ -21,6 +21,11 @@ CALL(collect,
 CALL(collect_in_place,
      (uint32_t edition, uint64_t *words, size_t word_count, uint64_t *roots, size_t root_count),
      (edition, OUT(words, word_count), word_count, OUT(roots, root_count), root_count))
+CALL(collect_pinned,
+     (uint32_t edition, uint64_t *words, size_t word_count, uint64_t *roots, size_t root_count, const uint64_t *pins,
+      size_t pin_count, uint64_t *runs, size_t run_words, uint64_t *run_count),
+     (edition, OUT(words, word_count), word_count, OUT(roots, root_count), root_count, IN(pins, pin_count), pin_count,
+      OUT(runs, run_words), run_words, run_count))
 CALL(collect_lent,
      (compressor_tables *tables, uint32_t edition, const uint64_t *words, size_t word_count, uint64_t *roots,
       size_t root_count, uint64_t *to, size_t to_count),

@@ -4,6 +4,7 @@ ghost use Rattle.comp_handle.specs.ByBits.{SurveysByBits};
 ghost use Rattle.comp_handle.specs.Guarding.{SurveysGuarded};
 ghost use Rattle.comp_handle.specs.HandleKinds.{survey_in, tables_in, Asks, Fills, Turns};
 ghost use Rattle.comp_handle.specs.Lending.{CollectsLent, CollectsLentInPlace, IsStillShared, IsUnlent, Reserves, Returns, SurveysLent};
+ghost use Rattle.comp_handle.specs.Pinning.{CollectsPinned};
 ghost use Rattle.comp_handle.specs.Resting.{Collects, CollectsInPlace, CountsSurvey, ForwardsRoots, ForwardsWeak, Shares, Slides, SurveysByMarks, SurveysByRoots};
 
 use comp_handle::{Answer, Handle, SurveyFacts};
@@ -34,6 +35,22 @@ pub extern "C" fn compressor_c_collect_in_place(
     ensures { CollectsInPlace edition words.old words.new roots.old roots.new result }
 {
     comp_handle::collect_in_place(alloc, edition, words, roots)
+}
+
+/// The same within the words around objects that stay where they are.
+#[unsafe(no_mangle)]
+pub extern "C" fn compressor_c_collect_pinned(
+    alloc: Global,
+    edition: u32,
+    words: &mut [u64],
+    roots: &mut [u64],
+    pins: &[u64],
+    runs: &mut [u64],
+    run_count: &mut u64,
+) -> Answer
+    ensures { CollectsPinned edition words.old words.new roots.old roots.new pins.now runs.old runs.new run_count.old run_count.new result }
+{
+    comp_handle::collect_pinned(alloc, edition, words, roots, pins, runs, run_count)
 }
 
 /// Collects the heap of these words and roots into another memory, by tables that were made before.
