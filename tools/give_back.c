@@ -22,7 +22,7 @@ static size_t resident(uint64_t *words) {
 }
 
 int main(void) {
-    compressor_space space = {0, NULL, 0, 0, 0, 0, 0, 0};
+    compressor_space space = {0, NULL, 0, 0, 0, 0, 0, 0, NULL, 0, 0, 0, NULL};
     void *mapped = mmap(NULL, ROOM * sizeof(uint64_t), PROT_READ | PROT_WRITE, MAP_PRIVATE | MAP_ANONYMOUS, -1, 0);
     uint64_t *words = (uint64_t *)mapped, left = 0;
     size_t before, after;

@@ -78,6 +78,7 @@ static void round_of(uint64_t seed, uint64_t round) {
     else if (round == 1) limits_round();
     else if (round % 8 == 3) threads_round();
     else if (round % 8 == 5) grow_old();
+    else if (round % 16 == 7) pins_round();
     else if (round % 2 == 1) at_rest();
     else cycles();
     SAME(blocks_kept(), 0);

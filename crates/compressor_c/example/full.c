@@ -163,7 +163,7 @@ static void check_sixteenths(void) {
 
 static void fill(way it) {
     const mutator none = {{0, 0, 0}, 0, 0, 0, 0, 0};
-    const compressor_space empty = {0, NULL, 0, 0, 0, 0, 0, 0};
+    const compressor_space empty = {0, NULL, 0, 0, 0, 0, 0, 0, NULL, 0, 0, 0, NULL};
     const uint64_t before = collections;
     chosen = it;
     sixteenths = 0;
@@ -228,7 +228,7 @@ static void check_limits(void) {
 /* What compressor_space_in leaves of a limit, and of words for which there is no room. */
 static void check_places(void) {
     static uint64_t words[100];
-    const compressor_space empty = {0, NULL, 0, 0, 0, 0, 0, 0};
+    const compressor_space empty = {0, NULL, 0, 0, 0, 0, 0, 0, NULL, 0, 0, 0, NULL};
     compressor_buffer buffer = {0, 0, 0};
     compressor_answer a;
     uint64_t roots[2];
