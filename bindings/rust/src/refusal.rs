@@ -241,6 +241,8 @@ refusals! {
     /// The word with this index is a reference or weak word of an old object, its card is clean, and it leads to no
     /// old object.
     225 LEADS_ABOVE LeadsAbove { index };
+    /// The pin with this number leads to no word of the heap.
+    226 BAD_PIN BadPin { number };
     /// A handle of another kind. None is here.
     255 WRONG_HANDLE WrongHandle;
 }

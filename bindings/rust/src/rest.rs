@@ -6,7 +6,7 @@
 //! [`Marking`] the same with no copy, and in steps; [`Growing`] takes roots by and by, and says what is kept so far;
 //! [`Tables`] are room for one, made before it. By [`Pages`] threads go on while the heap slides, by [`Looks`] while it
 //! is marked. By [`OldTables`] what was made since the last collection is collected alone, and the rest stays where it
-//! is.
+//! is. By [`Pins`] some objects stay where they are, and all others slide.
 //!
 //! What the runtime keeps:
 //!
@@ -32,6 +32,7 @@ mod looks;
 mod marking;
 mod old_tables;
 mod pages;
+mod pins;
 mod space;
 mod survey;
 mod tables;
@@ -47,6 +48,7 @@ pub use looks::Looks;
 pub use marking::Marking;
 pub use old_tables::OldTables;
 pub use pages::{BuiltPage, Page, Pages};
+pub use pins::{Pin, Pins};
 pub use space::Space;
 pub use survey::Survey;
 pub use tables::Tables;

@@ -73,6 +73,10 @@ unsafe extern "C" {
     pub fn compressor_collect_in_place(
         edition: u32, words: *mut u64, word_count: usize, roots: *mut u64,
         root_count: usize) -> Answer;
+    pub fn compressor_collect_pinned(
+        edition: u32, words: *mut u64, word_count: usize, roots: *mut u64, root_count: usize,
+        pins: *const u64, pin_count: usize, runs: *mut u64, run_words: usize,
+        run_count: *mut u64) -> Answer;
     pub fn compressor_survey_by_roots(
         edition: u32, words: *const u64, word_count: usize, roots: *const u64, root_count: usize,
         survey: &mut Survey) -> Answer;

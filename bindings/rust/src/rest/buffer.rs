@@ -54,16 +54,27 @@ impl Space<'_> {
 
     /// Takes zeroed words, at least `least`, and else up to `most`; but if there is a limit below the room, no more
     /// than a sixteenth of those up to it, and none above. So threads share what is left, and it is due when it is
-    /// used.
+    /// used. Runs between pins come first.
     fn take(&self, least: u64, most: u64) -> Option<Range<u64>> {
         let is_limited = self.limit < self.room;
+        let in_runs = self.in_runs();
+        let some = |used: u64, left: u64| {
+            let below = self.limit.saturating_sub(used - in_runs) / 16;
+            let some = if is_limited { below } else { left };
+            some.clamp(least, most)
+        };
         let more = |used: u64| {
             let left = self.room - used;
-            let some = if is_limited { self.limit.saturating_sub(used) / 16 } else { left };
-            (left >= least).then(|| used + some.clamp(least, most))
+            (left >= least).then(|| used + some(used, left))
         };
-        let start = self.used.fetch_update(Ordering::Relaxed, Ordering::Relaxed, more).ok()?;
-        let taken = start..more(start)?;
+        let taken = match self.take_from_run(least, some(self.used(), most)) {
+            Some((start, words)) => start..start + words,
+            None => {
+                let taken = self.used.fetch_update(Ordering::Relaxed, Ordering::Relaxed, more);
+                let start = taken.ok()?;
+                start..more(start)?
+            }
+        };
         for cell in &self.cells()[taken.start as usize..taken.end as usize] {
             cell.store(0, Ordering::Relaxed);
         }

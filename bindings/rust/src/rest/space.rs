@@ -37,6 +37,9 @@ pub struct Space<'m> {
     pub(super) turns: u64,
     /// Buffers of another epoch have no words of this space.
     pub(super) epoch: u64,
+    /// Where runs of free words begin, between pins, and how many words they have.
+    pub(super) runs: Vec<u64>,
+    pub(super) in_runs: AtomicU64,
     memory: PhantomData<&'m mut [u64]>,
 }
 
@@ -90,6 +93,8 @@ impl<'m> Space<'m> {
             base: FROM_SPACE,
             turns: 0,
             epoch: 0,
+            runs: Vec::new(),
+            in_runs: AtomicU64::new(0),
             memory: PhantomData,
         };
         space.reset(used);
@@ -106,14 +111,19 @@ impl<'m> Space<'m> {
         self.room
     }
 
-    /// The words of all objects and buffers.
+    /// The words of all objects and buffers, and of runs of free ones between pins.
     pub fn used(&self) -> u64 {
         self.used.load(Ordering::Relaxed)
     }
 
+    /// The words of those runs alone.
+    pub fn in_runs(&self) -> u64 {
+        self.in_runs.load(Ordering::Relaxed)
+    }
+
     /// Whether it is time to collect.
     pub fn is_due(&self) -> bool {
-        self.used() >= self.limit
+        self.used() - self.in_runs() >= self.limit
     }
 
     /// From so many words on it is time to collect.
@@ -181,6 +191,8 @@ impl<'m> Space<'m> {
         self.limit = if is_set { self.limit.min(room) } else { room };
         self.room = room;
         *self.used.get_mut() = used;
+        self.runs.clear();
+        *self.in_runs.get_mut() = 0;
         self.base = FROM_SPACE;
         self.empty_buffers();
     }
