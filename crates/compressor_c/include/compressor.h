@@ -628,7 +628,8 @@ void compressor_growing_drop(compressor_growing *growing);
    One edition goes with the tables as long as there is a watermark; they do not know which.
    old_reserve: tables for heaps of so many words, with watermark 0. They take three bits a word, 4 bytes for each 64
    words, and 12 a word, of which a collection touches 4 for each young object that it meets, and 4 for each word on a
-   dirty card that leads to no old object. Memory. No call below takes any.
+   dirty card that leads to no old object. But each young collection passes over the bits and counts of all this room:
+   so reserve for some twice the words in use, and once more when they are outgrown. Memory. No call below takes any.
    watermark: answers it, an index of words; 0 before the first collection.
    collect_all: as compressor_collect_in_place, whatever is old. Answers the live words, which are the watermark then:
    what lives is old. Refusals, after which words, roots and tables are as they were: BAD_EDITION; TOO_LARGE;
