@@ -1,16 +1,18 @@
 //! Marks the words of objects that wait, and looks up to which objects their references lead.
-ghost use Rattle.std.specs.Prelude.{Some, ◌≡◌, ℕ, ◌+◌, ◌*◌, ◌/◌, ◌^◌, ◌<◌, ◌≤◌, ◌==◌, true, false, length, IfSome, OnOk};
+ghost use Rattle.std.specs.Prelude.{Some, ◌≡◌, ℕ, ◌+◌, ◌*◌, ◌/◌, ◌^◌, ◌<◌, ◌≤◌, ◌==◌, true, false, length, slice_index, IfSome, OnOk};
 ghost use Rattle.std.specs.Int.{bit_at};
 ghost use Rattle.heap_layout.specs.Bits.{bit};
-ghost use Rattle.heap_layout.specs.Heap.{from_address};
+ghost use Rattle.heap_layout.specs.Header.{refs_of, size_of};
+ghost use Rattle.heap_layout.specs.Heap.{from_address, header_at};
 ghost use Rattle.mark_job.specs.Heads.{AreAmong};
 ghost use Rattle.mark_job.specs.Marking.{AreMarked};
 
 use crate::heads::{Heads, Met};
 use crate::lane::Lane;
 use crate::waiting::Lost;
-use heap_layout::{Edition, FROM_SPACE, Header};
+use heap_layout::{Edition, FROM_SPACE};
 use std::sync::atomic::{AtomicU64, Ordering};
+use stopped_heap::{Ahead, Shape, WIDE};
 
 /// The heap that is marked: its edition, its number of words, the bits of the objects that were met, and the blocks of
 /// the bits of the words of those at which a helper looked.
@@ -88,6 +90,8 @@ impl Marks {
         ensures table { met.new.table ≡ met.old.table }
         ensures stay { AreAmong met.old.bits met.new.bits }
         ensures met { (i : ℕ) → i < self.now.count → word ≡ from_address i → bit met.new.bits i ≡ true }
+        ensures places { OnOk result ((k : ℕ) → k < length objects.old.items
+            → (k < length objects.new.items) × (slice_index objects.new.items k ≡ slice_index objects.old.items k)) }
     {
         let Some(i) = index_of(self.count, word) else {
             return Ok(());
@@ -98,7 +102,7 @@ impl Marks {
         Ok(())
     }
 
-    /// The same for each of these words.
+    /// Puts the objects to which these words lead at the end of the list, of which the bits are not set.
     #[inline(always)]
     pub(crate) fn meet_each(
         &self,
@@ -110,6 +114,8 @@ impl Marks {
         ensures table { met.new.table ≡ met.old.table }
         ensures stay { AreAmong met.old.bits met.new.bits }
         ensures marked { OnOk result (AreMarked self.now.count from.now met.new.bits) }
+        ensures places { OnOk result ((k : ℕ) → k < length objects.old.items
+            → (k < length objects.new.items) × (slice_index objects.new.items k ≡ slice_index objects.old.items k)) }
     {
         for k in 0..from.len() {
             self.meet(met, objects, from[k])?;
@@ -117,7 +123,7 @@ impl Marks {
         Ok(())
     }
 
-    // Marks the words of the object at index `i`, and follows its references.
+    // Marks the words of the object at index `i`, which has this shape, and follows its references.
     #[inline(always)]
     fn follow(
         &self,
@@ -125,24 +131,24 @@ impl Marks {
         met: &mut Met,
         objects: &mut Vec<u32>,
         i: usize,
+        shape: Shape,
     ) -> Result<(), Lost>
         requires count { length words.now ≡ self.now.count }
+        requires inside { i < length words.now }
+        requires refs { shape.refs ≡ refs_of (header_at self.now.edition words.now i) }
+        requires size { shape.size ≡ size_of (header_at self.now.edition words.now i) }
         requires table { met.old.table ≡ self.now.heads.table.shared.table_id }
         ensures table { met.new.table ≡ met.old.table }
+        ensures places { OnOk result ((k : ℕ) → k < length objects.old.items
+            → (k < length objects.new.items) × (slice_index objects.new.items k ≡ slice_index objects.old.items k)) }
     {
-        if i >= words.len() {
+        if shape.size > self.edition.max_object_words() || shape.size > words.len() - i {
             return Err(Lost::Object(i));
         }
-        let header = Header::from_word_of(self.edition, words[i]);
-        let size = header.size() as usize;
-        if size > self.edition.max_object_words() || size > words.len() - i {
+        if !take_run(&self.live, i, shape.size) {
             return Err(Lost::Object(i));
         }
-        if !take_run(&self.live, i, size) {
-            return Err(Lost::Object(i));
-        }
-        let refs = header.refs() as usize;
-        self.meet_each(met, objects, &words[i + 1..i + 1 + refs])
+        self.meet_each(met, objects, &words[i + 1..i + 1 + shape.refs])
     }
 
     /// Does so with up to so many objects of a lane.
@@ -156,13 +162,21 @@ impl Marks {
         requires count { length words.now ≡ self.now.count }
         requires table { met.old.table ≡ self.now.heads.table.shared.table_id }
     {
+        let mut ahead = Ahead::none(0);
+        let mut headers = [0u64; WIDE];
         for _ in 0..most {
-            if lane.next >= lane.objects.len() {
+            let next = lane.next;
+            if next >= lane.objects.len() {
                 return Ok(());
             }
-            let i = lane.objects[lane.next] as usize;
+            let i = lane.objects[next] as usize;
             lane.next += 1;
-            self.follow(words, met, &mut lane.objects, i)?;
+            if i >= words.len() {
+                return Err(Lost::Object(i));
+            }
+            let edition = self.edition;
+            let shape = ahead.shape(edition, words, &lane.objects, &mut headers, next, i);
+            self.follow(words, met, &mut lane.objects, i, shape)?;
         }
         Ok(())
     }

@@ -1,10 +1,11 @@
 //! The heap that is marked.
 ghost use Rattle.std.specs.Prelude.{◌≡◌, ◌^◌, ◌<◌, length, IfSome};
-ghost use Rattle.heap_layout.specs.Header.{refs_of};
-ghost use Rattle.heap_layout.specs.Heap.{from_address, header_at, object_at, IsPlaced};
+ghost use Rattle.heap_layout.specs.Header.{refs_of, size_of};
+ghost use Rattle.heap_layout.specs.Heap.{from_address, header_at, object_at};
 
-use heap_layout::{Edition, FROM_SPACE, Header};
+use heap_layout::{Edition, FROM_SPACE};
 use std::marker::Model;
+use stopped_heap::Shape;
 
 /// The words and roots of a heap, which nobody changes.
 #[derive(Drop)]
@@ -58,28 +59,18 @@ impl Image {
         Some(i as usize)
     }
 
-    // How many references the object at index `i` has. None if it is too long for the edition or ends past the words.
+    /// The references of the object at index `i`, which has this shape. None if it is too long for the edition or ends
+    /// past the words.
     #[inline(always)]
-    fn refs_at(&self, i: usize) -> Option<usize>
-        requires { i < length self.now.words }
-        ensures placed { IfSome result (λ _. IsPlaced self.now.edition self.now.words i) }
-        ensures refs { IfSome result (λ refs. refs ≡ refs_of (header_at self.now.edition self.now.words i)) }
-    {
-        let header = Header::from_word_of(self.edition, self.words[i]);
-        let size = header.size() as usize;
-        if size > self.edition.max_object_words() || size > self.words.len() - i {
-            return None;
-        }
-        Some(header.refs() as usize)
-    }
-
-    /// The references of the object at index `i`. None if it is too long for the edition or ends past the words.
-    #[inline(always)]
-    pub(crate) fn references(&self, i: usize) -> Option<&[u64]>
-        requires { i < length self.now.words }
+    pub(crate) fn references(&self, i: usize, shape: Shape) -> Option<&[u64]>
+        requires inside { i < length self.now.words }
+        requires refs { shape.refs ≡ refs_of (header_at self.now.edition self.now.words i) }
+        requires size { shape.size ≡ size_of (header_at self.now.edition self.now.words i) }
         ensures { IfSome result (λ from. from.now ≡ (object_at self.now.edition self.now.words i).references) }
     {
-        let refs = self.refs_at(i)?;
-        Some(&self.words[i + 1..i + 1 + refs])
+        if shape.size > self.edition.max_object_words() || shape.size > self.words.len() - i {
+            return None;
+        }
+        Some(&self.words[i + 1..i + 1 + shape.refs])
     }
 }

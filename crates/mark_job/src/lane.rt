@@ -59,7 +59,7 @@ impl Lane {
         }
     }
 
-    /// The same, and nothing is said of the objects.
+    /// Moves as `move_half` does, and says nothing of the objects.
     pub(crate) fn give_half(&mut self, to: &mut Lane, most: usize) {
         let count = (self.waiting() / 2).min(most);
         for _ in 0..count {
@@ -86,7 +86,7 @@ impl Lane {
         }
     }
 
-    /// The same, if this word, which says whether the lane is at home, is 0.
+    /// Sets the bits of its objects if this word, which says whether the lane is at home, is 0.
     pub(crate) fn mark_if(&self, word: u64, image: &Image, heads: &mut [u64])
         requires lane { word ≡ 0 → AreMetIn image.now self.now }
         requires room { length image.now.words ≤ 64 * length heads.old }

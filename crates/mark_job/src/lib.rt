@@ -16,11 +16,20 @@
 //! lead to objects that were met. If not, the thread that finishes the job surveys the heap alone.
 //!
 //! A `Marking` copies no words: they are lent at each call, and nothing is believed of them between two calls. Its
-//! helpers set two bits a word, of the first words of the objects that were met, and of all words of those at which they
-//! looked, and its end takes these bits as `Places::of_bits` does. What the end would ask of the words, a slide by
+//! helpers set two bits a word, of the first words of the objects that were met, and of all words of those at which
+//! they looked, and its end takes these bits as `Places::of_bits` does. What the end would ask of the words, a slide by
 //! `Places::try_slide` asks. So other threads may go on beside it, if they hand what they write over, and what is new,
 //! to `Marking::meet`. The bits of the objects that were met only grow: this is the rule of their table, and a `Met` is
 //! what a thread knows of it.
+//!
+//! The modules, in the order in which to read them:
+//!
+//! - `image`, `view`, `lane`, `rule`, `lanes`: the heap that a job owns, and lanes with the rule of their steps.
+//! - `looking`, `help`, `desk`: what one helper does.
+//! - `surveying`, `ended`, `job`: what was found, and the job from its beginning to its end.
+//! - `met_view`, `heads`, `free_lanes`, `waiting`: what the helpers of a marking share.
+//! - `following`, `marking_fault`, `marking`: what one of them does, and the marking from its beginning to its end.
+//! - `laws`: what follows of the clauses.
 #![tactic(auto)]
 
 mod desk;

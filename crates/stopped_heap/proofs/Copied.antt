@@ -18,19 +18,26 @@ pub ahead-none : (words queue headers : List ℕ) (ahead : Ahead) → ahead.from
 ahead-none words queue headers ahead none within = record {
   room = omega (arith, none);
   within = within;
-  copied = λ k from to. absurd (omega (arith, none, from, to));
+  copied = λ k from to inside. absurd (omega (arith, none, from, to));
+}
+
+-- if each object stays at its place
+pub ahead-stays : (words old new headers : List ℕ) (ahead : Ahead) → IsAhead words old headers ahead
+    → ((k : ℕ) → k < length old → (k < length new) × (get_or new k 0 ≡ get_or old k 0)) → IsAhead words new headers ahead
+ahead-stays words old new headers ahead is stays = record {
+  room = is.room;
+  within = elim (cases_lt 0 ahead.to) [
+    | inl some ↦ omega (arith, some, (stays (ahead.to - 1) (omega (arith, some, is.within))).0)
+    | inr none ↦ omega (arith, none)
+  ];
+  copied = λ k first last inside.
+      let same = (stays k (omega (arith, last, is.within))).1 in
+      is.copied k first last (subst (λ (n : ℕ). n < length words) same inside) ∙ ap (λ (n : ℕ). get_or words n 0) (sym same);
 }
 
 -- after an object was followed
 pub ahead-on : (row : ℕ → Bool) (words old references new headers : List ℕ) (ahead : Ahead) → IsAhead words old headers ahead
     → new ≡ fold (after_word row) old references → IsAhead words new headers ahead
 ahead-on row words old references new headers ahead is from =
-    let longer : length old ≤ length new = subst (λ (xs : List ℕ). length old ≤ length xs) (sym from) (all-stay row old references) in
-    record {
-      room = is.room;
-      within = omega (arith, is.within, longer);
-      copied = λ k first last.
-          let inside : k < length old = omega (arith, last, is.within) in
-          let same : get_or new k 0 ≡ get_or old k 0 = ap (λ (xs : List ℕ). get_or xs k 0) from ∙ (places row old references k inside).1 in
-          is.copied k first last ∙ ap (λ (n : ℕ). get_or words n 0) (sym same);
-    }
+    subst (λ (xs : List ℕ). IsAhead words xs headers ahead) (sym from)
+    (ahead-stays words old (fold (after_word row) old references) headers ahead is (places row old references))

@@ -14,6 +14,7 @@ pub fn next_set(bits: &[u64], i: usize) -> usize
     requires few { length bits.now ≤ 2 ^ 25 }
     requires known { i < 64 * length bits.now }
     ensures from { i ≤ result }
+    ensures within { result ≤ 64 * length bits.now }
     ensures none { (j : ℕ) → i ≤ j → j < result → bit bits.now j ≡ false }
     ensures here { result < 64 * length bits.now → bit bits.now result ≡ true }
 {

@@ -1,16 +1,15 @@
 //! The headers of objects that wait in the queue of a marking are copied before the objects are followed. A loop that
-//! does nothing else has many of them come from memory at a time.
+//! does nothing else has many of them come from memory at a time. Markers of one thread and of several have them so.
 ghost use Rattle.std.specs.Prelude.{◌≡◌, ℕ, ◌<◌, ◌≤◌, length, slice_index};
 ghost use Rattle.heap_layout.specs.Header.{refs_of, weak_of, size_of};
 ghost use Rattle.heap_layout.specs.Heap.{header_at};
 ghost use Rattle.stopped_heap.specs.Following.{IsAhead};
-ghost use Rattle.stopped_heap.specs.Meeting.{AreOnce};
 
 use crate::shape::{Shape, shape_of};
 use heap_layout::Edition;
 
 /// How many headers are copied at once.
-pub(crate) const WIDE: usize = 32;
+pub const WIDE: usize = 32;
 
 // If fewer objects wait, no header is copied.
 const FEW: usize = 4;
@@ -22,21 +21,24 @@ const FAR: u32 = 1024;
 /// Which headers are copied: those of the objects in a queue from place `from` up to `to`. Place `until` is where to
 /// look at the queue again.
 #[derive(Clone, Copy)]
-pub(crate) struct Ahead {
+pub struct Ahead {
     from: usize,
     to: usize,
     until: usize,
 }
 
-// Copies the headers of these objects.
+// Copies the headers of these objects, of those that lie within the words.
 #[inline(always)]
 fn copy_headers(words: &[u64], objects: &[u32], headers: &mut [u64; WIDE])
     requires room { length objects.now ≤ 32 }
-    requires known { (k : ℕ) → k < length objects.now → slice_index objects.now k < length words.now }
-    ensures copied { (k : ℕ) → k < length objects.now → slice_index headers.new k ≡ slice_index words.now (slice_index objects.now k) }
+    ensures copied { (k : ℕ) → k < length objects.now → slice_index objects.now k < length words.now
+        → slice_index headers.new k ≡ slice_index words.now (slice_index objects.now k) }
 {
     for k in 0..objects.len() {
-        headers[k] = words[objects[k] as usize];
+        let i = objects[k] as usize;
+        if i < words.len() {
+            headers[k] = words[i];
+        }
     }
 }
 
@@ -51,7 +53,7 @@ fn lie_far(objects: &[u32]) -> bool
 impl Ahead {
     /// None is copied, and the queue has to be looked at from place `next` on.
     #[inline(always)]
-    pub(crate) fn none(next: usize) -> Ahead
+    pub fn none(next: usize) -> Ahead
         ensures from { result.from ≡ next }
         ensures to { result.to ≡ next }
     {
@@ -67,7 +69,6 @@ impl Ahead {
     #[inline(never)]
     fn look(&mut self, words: &[u64], queue: &[u32], headers: &mut [u64; WIDE], next: usize)
         requires within { next < length queue.now }
-        requires once { AreOnce (length words.now) queue.now }
         ensures ahead { IsAhead words.now queue.now headers.new self.new }
         ensures from { self.new.from ≡ next }
     {
@@ -93,8 +94,8 @@ impl Ahead {
         i: usize,
     ) -> u64
         requires within { next < length queue.now }
-        requires once { AreOnce (length words.now) queue.now }
         requires object { slice_index queue.now next ≡ i }
+        requires inside { i < length words.now }
         requires ahead { IsAhead words.now queue.now headers.old self.old }
         requires order { self.old.from ≤ next }
         ensures ahead { IsAhead words.now queue.now headers.new self.new }
@@ -112,7 +113,7 @@ impl Ahead {
 
     /// The shape of the object at place `next` of the queue, which is at index `i`.
     #[inline(always)]
-    pub(crate) fn shape(
+    pub fn shape(
         &mut self,
         edition: Edition,
         words: &[u64],
@@ -122,8 +123,8 @@ impl Ahead {
         i: usize,
     ) -> Shape
         requires within { next < length queue.now }
-        requires once { AreOnce (length words.now) queue.now }
         requires object { slice_index queue.now next ≡ i }
+        requires inside { i < length words.now }
         requires ahead { IsAhead words.now queue.now headers.old self.old }
         requires order { self.old.from ≤ next }
         ensures ahead { IsAhead words.now queue.now headers.new self.new }

@@ -1,13 +1,14 @@
 //! What the references of some objects lead to, and the queue and the bits of the objects that were met. Threads look
 //! it up side by side, with the bits read alone; the caller then meets what they found.
 ghost use Rattle.std.specs.Prelude.{◌≡◌, ℕ, ◌*◌, ◌^◌, ◌<◌, ◌≤◌, true, All, length, IfSome, OnOk};
-ghost use Rattle.heap_layout.specs.Header.{refs_of};
+ghost use Rattle.heap_layout.specs.Header.{refs_of, size_of};
 ghost use Rattle.heap_layout.specs.Heap.{from_address, header_at, IsPlaced};
 ghost use Rattle.stopped_heap.specs.Reached.{IsReachedFrom};
 ghost use Rattle.stopped_heap.specs.Rounds.{AreReaching, IsFoundPart, IsReachedBy, LeadToReached};
 
-use crate::marking::{AHEAD, ends_within, references};
-use crate::shape::shape_of;
+use crate::following::{Ahead, WIDE};
+use crate::marking::references;
+use crate::shape::{Shape, shape_of};
 use heap_layout::{Edition, FROM_SPACE, is_set, set};
 use std::alloc::{AllocError, Global};
 
@@ -69,8 +70,8 @@ fn find(
     Ok(())
 }
 
-// The same for the references of the object at index `i`. The answer is false if it is too long for the edition or ends
-// past the words, or memory runs out.
+// The same for the references of the object at index `i`, which has this shape. The answer is false if it is too long
+// for the edition or ends past the words, or memory runs out.
 #[inline(always)]
 fn find_from(
     edition: Edition,
@@ -79,17 +80,20 @@ fn find_from(
     heads: &[u64],
     found: &mut Vec<u32>,
     i: usize,
+    shape: Shape,
 ) -> bool
     requires few { length words.now ≤ 2 ^ 31 }
     requires room { length words.now ≤ 64 * length heads.now }
     requires reached { IsReachedFrom edition words.now roots.now i }
+    requires refs { shape.refs ≡ refs_of (header_at edition words.now i) }
+    requires size { shape.size ≡ size_of (header_at edition words.now i) }
     requires found { All (IsReachedFrom edition words.now roots.now) found.old.items }
     ensures { result ≡ true → All (IsReachedFrom edition words.now roots.now) found.new.items }
 {
-    let Some(refs) = refs_at(edition, words, i) else {
+    if shape.size > edition.max_object_words() || shape.size > words.len() - i {
         return false;
-    };
-    let from = references(edition, words, i, refs);
+    }
+    let from = references(edition, words, i, shape.refs);
     for k in 0..from.len() {
         if find(edition, words, roots, heads, found, from[k]).is_err() {
             return false;
@@ -140,15 +144,12 @@ pub(crate) fn found_by(
     let Ok(mut found) = Vec::with_capacity(alloc, objects.len()) else {
         return None;
     };
+    let mut ahead = Ahead::none(0);
+    let mut headers = [0u64; WIDE];
     for k in 0..objects.len() {
         let i = objects[k] as usize;
-        if k + AHEAD < objects.len() {
-            let ahead = objects[k + AHEAD] as usize;
-            if !ends_within(edition, words, i, ahead) {
-                return None;
-            }
-        }
-        if !find_from(edition, words, roots, heads, &mut found, i) {
+        let shape = ahead.shape(edition, words, objects, &mut headers, k, i);
+        if !find_from(edition, words, roots, heads, &mut found, i, shape) {
             return None;
         }
     }

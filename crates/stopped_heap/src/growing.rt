@@ -80,8 +80,8 @@ pub(crate) fn grow(
     Ok(())
 }
 
-/// The same in words that may have been written to since. Whatever words were seen then, and are the same where no bit
-/// is set: of these is all that is found.
+/// Marks what more roots reach in words that may have been written to since. Whatever words were seen then, and are the
+/// same where no bit is set: of these is all that is found.
 pub(crate) fn grow_in(
     edition: Edition,
     words: &[u64],
@@ -150,8 +150,9 @@ impl<'w> Growing<'w> {
         })
     }
 
-    /// The same in tables that were made before, with no allocation, now and when it grows. Err if the words are too
-    /// many for the edition; and if not, if the tables have room for fewer words. They come back with the fault.
+    /// Begins a survey in tables that were made before, with no allocation, now and when it grows. It has marked
+    /// nothing. Err if the words are too many for the edition; and if not, if the tables have room for fewer words.
+    /// They come back with the fault.
     pub fn begin_lent(
         tables: Tables,
         edition: Edition,

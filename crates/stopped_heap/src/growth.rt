@@ -111,8 +111,9 @@ impl Growth {
         }
     }
 
-    /// The same in tables that were made before, with no allocation, now and when it grows. Err if the words are too
-    /// many for the edition; and if not, if the tables have room for fewer words. They come back with the fault.
+    /// Begins a survey in tables that were made before, with no allocation, now and when it grows. It has marked
+    /// nothing. Err if the words are too many for the edition; and if not, if the tables have room for fewer words.
+    /// They come back with the fault.
     pub fn begin_lent(
         tables: Tables,
         edition: Edition,

@@ -59,7 +59,8 @@ pub(crate) fn fill(
     Ok(())
 }
 
-/// The same by marks of the caller's own, which have a bit for each word. The queue is not wanted.
+/// Fills tables by marks of the caller's own, which have a bit for each word, as `fill` does by roots. The queue is not
+/// wanted.
 pub(crate) fn fill_by_marks(
     edition: Edition,
     words: &[u64],

@@ -12,16 +12,34 @@
 //! objects out of words that may have changed since, or tell which object changed.
 //!
 //! `Places::of_bits` takes bits of the caller's own with no look at the words: of which objects are marked, and which
-//! words are theirs. Then the slide asks what a survey asks, and whatever it lets through loses nothing, whoever marked.
-//! `Looks` is such a marking, of objects that are handed in one by one while threads write: if each object that was
-//! written to is looked at again, no part that slides is refused. Several markers look at a heap each in a `Lane` of its
-//! own; lanes are joined at the end.
+//! words are theirs. Then the slide asks what a survey asks, and whatever it lets through loses nothing, whoever
+//! marked. `Looks` is such a marking, of objects that are handed in one by one while threads write: if each object that
+//! was written to is looked at again, no part that slides is refused. Several markers look at a heap each in a `Lane`
+//! of its own; lanes are joined at the end.
 //!
 //! `Places::live_bits`, `next_set` and `shape_of` are for crates that slide in a way of their own.
 //!
 //! A root that is not handed in is lost. The addresses before and after a collection are numbers of one range, so one
 //! that was kept elsewhere, or is forwarded twice, may be that of another object. During a call no other thread may
 //! write to the words, the roots or the memory into which they slide.
+//!
+//! The modules, in the order in which to read them:
+//!
+//! - `shape`, `bits`, `offsets`, `starts`, `finding`: what a header says, and bits of words.
+//! - `fault`: why something is refused.
+//! - `meeting`, `following`, `marking`: what the roots reach.
+//! - `forwarding`, `marks`: where words lead afterwards; marks of the caller's own.
+//! - `sliding`, `staying`, `sliding_down`, `trying`: the slide, elsewhere, in place, and out of words that changed.
+//! - `making`, `lending`, `tables`: the tables of a survey.
+//! - `survey`, `places`: what was found, with the words and without them.
+//! - `collecting`, `collecting_lent`, `in_place`: whole collections.
+//! - `live_bits`, `found`, `kept`, `rounds`, `survey_by_threads`, `threads`: the same by several threads.
+//! - `growing`, `growth`, `regrowing`: surveys that grow, with the words and without them.
+//! - `ephemerons`, `guarding`, `finalizing`: values kept by their keys, guardians, and finalizers.
+//! - `runs`, `given`: bits of the caller's own.
+//! - `looking_at`, `looking_rows`, `looks`, `checking`: a marking while the threads of the heap go on.
+//! - `claims`, `lane_meeting`, `lane`, `lane_looking`, `lane_rows`, `lane_bits`, `lane_joining`: the same by several.
+//! - `laws`, `tidied`: what follows of the clauses.
 #![tactic(auto)]
 
 mod bits;
@@ -85,6 +103,7 @@ pub use fault::{
 };
 pub use finalizing::Ordered;
 pub use finding::next_set;
+pub use following::{Ahead, WIDE};
 pub use given::{collect_by_bits, slid_is_sound};
 pub use growing::{Growing, NotGrown};
 pub use growth::{Growth, NotGrowth};

@@ -13,15 +13,8 @@ use crate::bits::take_run;
 use crate::fault::SurveyFault;
 use crate::following::{Ahead, WIDE};
 use crate::meeting::{Stop, check_leads, meet_all};
-use crate::shape::shape_of;
 use heap_layout::Edition;
 use std::alloc::Global;
-
-/// How many places ahead in the queue an object is looked at before its turn.
-pub(crate) const AHEAD: usize = 8;
-
-// How many words away it may lie and not be looked at, since the processor has it soon enough.
-const NEAR: usize = 512;
 
 /// The references of the object at index `i`, of which it has so many.
 #[inline(always)]
@@ -57,16 +50,6 @@ pub(crate) fn weak_words(
     &words[first..first + weak]
 }
 
-/// Whether the object at index `ahead` ends within the words, or lies near index `i`. It has its turn later, and by
-/// then its header has come from memory, while other objects are followed.
-#[inline(always)]
-pub(crate) fn ends_within(edition: Edition, words: &[u64], i: usize, ahead: usize) -> bool
-    requires { ahead < length words.now }
-    ensures { result ≡ false → length words.now < ahead + size_of (header_at edition words.now ahead) }
-{
-    ahead.abs_diff(i) <= NEAR || shape_of(edition, words[ahead]).size <= words.len() - ahead
-}
-
 /// Meets each object that the roots reach: sets the bit of its first word in `heads`, and those of all its words in
 /// `bits`. Err with a fault that is there, or if memory runs out. In `heads` and `bits` no bit may be set before. This
 /// is Cheney's walk, breadth first, with the queue beside the heap: a number of 4 bytes for each object met.
@@ -98,8 +81,8 @@ pub(crate) fn mark(
     mark_with(edition, words, roots, heads, bits, &mut Vec::new(alloc))
 }
 
-/// The same with this queue, which must be empty. It has the objects that were met afterwards. If it has room for as
-/// many as there are words, nothing is allocated.
+/// Marks as `mark` does with this queue, which must be empty. It has the objects that were met afterwards. If it has
+/// room for as many as there are words, nothing is allocated.
 pub(crate) fn mark_with(
     edition: Edition,
     words: &[u64],
@@ -134,8 +117,8 @@ pub(crate) fn mark_with(
     Ok(())
 }
 
-/// The same where objects were marked before, and more are now, from these roots. The queue has those that were marked,
-/// and after them those that are met now. Of those before no reference is followed again, and no word is looked at.
+/// Marks more objects, from these roots, where others were marked before. The queue has those that were marked, and
+/// after them those that are met now. Of those before no reference is followed again, and no word is looked at.
 #[inline(always)]
 pub(crate) fn mark_on(
     edition: Edition,
@@ -171,8 +154,8 @@ pub(crate) fn mark_on(
     Ok(())
 }
 
-/// The same in words that may have been written to since the objects in the queue were marked. Whatever words were seen
-/// then, and are the same where no bit is set: of these is all that is found.
+/// Marks as `mark_on` does in words that may have been written to since the objects in the queue were marked. Whatever
+/// words were seen then, and are the same where no bit is set: of these is all that is found.
 pub(crate) fn mark_in(
     edition: Edition,
     words: &[u64],

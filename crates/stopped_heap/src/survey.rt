@@ -91,10 +91,10 @@ impl<'w> Survey<'w> {
         })
     }
 
-    /// The same in tables that were made before, with no allocation, so that `OutOfMemory` never comes. Err if the
-    /// words or roots are too many for the edition; if not, if the tables have room for fewer words; and if not, with a
-    /// fault of the heap. The tables come back with the fault, with the room that they had. They are cleared for these
-    /// words only, and not for all their room.
+    /// Surveys as `of` does, in tables that were made before, with no allocation, so that `OutOfMemory` never comes.
+    /// Err if the words or roots are too many for the edition; if not, if the tables have room for fewer words; and if
+    /// not, with a fault of the heap. The tables come back with the fault, with the room that they had. They are
+    /// cleared for these words only, and not for all their room.
     pub fn of_lent(
         tables: Tables,
         edition: Edition,
@@ -244,10 +244,10 @@ impl<'w> Survey<'w> {
         })
     }
 
-    /// The same in tables that were made before, with no allocation, so that `OutOfMemory` never comes. Err if the
-    /// words or roots are too many for the edition; if not, if the tables have room for fewer words; if not, with
-    /// `WrongLength`; and if not, with a fault of the words, the roots or the marks. The tables come back with the fault,
-    /// with the room that they had.
+    /// Surveys as `of_marks` does, in tables that were made before, with no allocation, so that `OutOfMemory` never
+    /// comes. Err if the words or roots are too many for the edition; if not, if the tables have room for fewer words;
+    /// if not, with `WrongLength`; and if not, with a fault of the words, the roots or the marks. The tables come back
+    /// with the fault, with the room that they had.
     pub fn of_marks_lent(
         tables: Tables,
         edition: Edition,

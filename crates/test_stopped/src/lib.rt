@@ -1,5 +1,16 @@
 //! Collections of a heap at rest, compared with what a person works out and with a plain model. The heaps are drawn:
 //! between their objects lie words that are no objects, and an object that nothing reaches may be no object any more.
+//!
+//! The modules, by what they try:
+//!
+//! - `expected`, `plain_heap`, `drawing`: checks, the plain model, and heaps that are drawn.
+//! - `small_heaps`, `worked_heaps`, `long_objects`: heaps that a person worked out.
+//! - `drawn_heaps`, `drawn_in_place`, `drawn_lent`, `drawn_surveys`: drawn ones, collected in each way.
+//! - `drawn_by_threads`, `often_by_threads`: the same by threads.
+//! - `drawn_faults`, `drawn_changes`, `refused_memory`: refusals.
+//! - `growing`, `growths`, `guarding`, `finalizing`: surveys that grow.
+//! - `given_bits`, `looked_at`, `checked_looks`, `refused_looks`: bits of the caller's own, and markings by looks.
+//! - `lanes`, `given_lanes`, `joined_lanes`: lanes of one marking.
 #![tactic(auto)]
 
 #[cfg(test)]

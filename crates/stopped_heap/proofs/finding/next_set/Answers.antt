@@ -1,5 +1,6 @@
 use Rattle.std.proofs.Common.{◌*◌, ◌/◌, ◌%◌, get_or, inl, inr, refl, arith}
 use Rattle.std.proofs.lemmas.Bool.{cases_lt}
+use Rattle.stopped_heap.proofs.Bounding.{bit-inside}
 use Rattle.stopped_heap.proofs.Scanning.{next-there, none-there}
 use Rattle.stopped_heap.proofs.finding.next_set.Goals as goal
 
@@ -40,3 +41,10 @@ returns-then-block-ne0-clause-here c =
     let bits = c.args.bits.now in
     let b = c.loop-b.b in
     λ inside. (next-there bits (64 * b) b 0 (get_or bits b 0) (omega arith) (omega arith) (omega arith) (omega (arith, c.type_inv.bits b)) (omega (arith, c.if-block-ne0.true))).here
+
+pub returns-then-rest-ne0-clause-within : goal.returns-then-rest-ne0-clause-within
+returns-then-rest-ne0-clause-within c =
+    let bits = c.args.bits.now in
+    let i = c.args.i in
+    let next = next-there bits i (i / 64) (i % 64) _ (omega arith) (omega arith) refl (omega (arith, c.type_inv.bits (i / 64))) (omega (arith, c.if-rest-ne0.true)) in
+    omega (arith, bit-inside bits _ next.here)

@@ -1,6 +1,11 @@
-use Rattle.std.proofs.Common.{All}
+use Rattle.std.proofs.Common.{◌≤◌, All}
+use Rattle.stopped_heap.specs.Following.{IsAhead}
 use Rattle.stopped_heap.specs.Reached.{IsReachedFrom}
 use Rattle.stopped_heap.proofs.found.found_by.Given as goal
 
 abbrev pub invariant-loop-k : goal.invariant-loop-k
-invariant-loop-k l = All (IsReachedFrom l.edition l.words l.roots) l.found.items
+invariant-loop-k l = record {
+  found : All (IsReachedFrom l.edition l.words l.roots) l.found.items;
+  ahead : IsAhead l.words l.objects l.headers l.ahead;
+  order : l.ahead.from ≤ l.k;
+}

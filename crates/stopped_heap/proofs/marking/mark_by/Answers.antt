@@ -40,6 +40,14 @@ loop-next-init c =
       order = omega (arith, c.none-ahead.ensures.from);
     }
 
+pub shape-shape-requires-clause-inside : goal.shape-shape-requires-clause-inside
+shape-shape-requires-clause-inside c =
+    let queue = c.loop-next.queue.items in
+    let next = c.loop-next.next in
+    let within : next < length queue = omega arith in
+    let here : get_or queue next 0 ≡ c.index.result.now = get_or_default queue next 0 c.index.result.now within ∙ sym c.index.ensures in
+    subst (λ (n : ℕ). n < length c.args.words.now) here (c.loop-next.invariant.once.within (get_or queue next 0) (has-at queue next within))
+
 pub overflow_sub-count : goal.overflow_sub-count
 overflow_sub-count c =
     let queue = c.loop-next.queue.items in

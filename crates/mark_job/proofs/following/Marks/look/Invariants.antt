@@ -1,5 +1,10 @@
-use Rattle.std.proofs.Common.{◌≡◌}
+use Rattle.std.proofs.Common.{◌≡◌, ◌≤◌}
+use Rattle.stopped_heap.specs.Following.{IsAhead}
 use Rattle.mark_job.proofs.following.Marks.look.Given as goal
 
 abbrev pub invariant-loop : goal.invariant-loop
-invariant-loop l = l.met.table ≡ l.fn.met.table
+invariant-loop l = record {
+  table : l.met.table ≡ l.fn.met.table;
+  ahead : IsAhead l.words l.lane-inside.objects.items l.headers l.ahead;
+  order : l.ahead.from ≤ l.lane-inside.next;
+}
