@@ -19,3 +19,5 @@ pub mod Watermarks
 pub mod Listed
 pub mod Made
 pub mod Parting
+pub mod Fronts
+pub mod Raised

@@ -8,3 +8,4 @@ pub mod OldFaults
 pub mod Tables
 pub mod Dirty
 pub mod Aging
+pub mod Raising

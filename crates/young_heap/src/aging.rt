@@ -103,6 +103,11 @@ pub(crate) fn collect_parted(
     ensures queue_room { vec_capacity queue.old ≤ vec_capacity queue.new }
     ensures counts_stay { OnErr result ((b : ℕ) → b ≤ old / 64 → slice_index counts.new b ≡ 64 * b) }
 {
+    // The tables of these words, whatever room there is.
+    let blocks = words.len().div_ceil(64);
+    let heads = &mut heads[..blocks];
+    let bits = &mut bits[..blocks];
+    let counts = &mut counts[..blocks + 1];
     clear_from(heads, old);
     clear_from(bits, old);
     queue.clear();
@@ -115,8 +120,8 @@ pub(crate) fn collect_parted(
     Ok((live, middle))
 }
 
-/// The same by cards, as `OldTables::collect_aging` says, which are made anew for the watermark that it answers beside
-/// the number of live words. What `fields` and `weaks` hold before is dropped.
+/// Collects what is young by cards, as `OldTables::collect_aging` says, which are made anew for the watermark that it
+/// answers beside the number of live words. What `fields` and `weaks` hold before is dropped.
 ///
 /// `OutOfMemory` comes only if one of these has room for fewer than `old` indices, or the queue for fewer than there
 /// are words. `TooLarge` never comes.

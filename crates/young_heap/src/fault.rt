@@ -28,6 +28,27 @@ pub enum YoungFault {
     Survey(SurveyFault),
 }
 
+/// Why a watermark is not raised. They come in this order: a fault comes only if there is none of those before it.
+#[derive(Clone, Copy, Debug, PartialEq, Eq, Error)]
+pub enum RaiseFault {
+    /// There are more words than the edition allows.
+    #[error("there are too many words")]
+    TooLarge,
+    /// There are more words than these, for which the tables have room.
+    #[error("the tables have room for {0} words")]
+    ShortTables(u64),
+    /// There are fewer words than these, up to which they would be old.
+    #[error("there are fewer words than the end, {0}")]
+    FewWords(u64),
+    /// The end is below this, the watermark.
+    #[error("the end is below the watermark, {0}")]
+    BelowWatermark(u64),
+    /// The words from the watermark up to this index are a row of objects; the header there says more words than an
+    /// object may have, or more than there are up to the end.
+    #[error("no object that ends in time is at {0}")]
+    NotARow(u64),
+}
+
 /// What is not as mutators have to keep it below the watermark. A fault that is answered is there; there may be others
 /// too.
 #[derive(Clone, Copy, Debug, PartialEq, Eq, Error)]

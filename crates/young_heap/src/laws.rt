@@ -1,5 +1,5 @@
 //! Laws of young collections. Each is the contract of a function that does nothing.
-ghost use Rattle.std.specs.Prelude.{◌≡◌, List, ℕ, ◌<◌, ◌≤◌, [], All, Bool, length, true};
+ghost use Rattle.std.specs.Prelude.{◌≡◌, List, ℕ, ◌<◌, ◌≤◌, [], All, Bool, length, false, true};
 ghost use Rattle.heap_layout.specs.declared.edition.Edition.{Edition};
 ghost use Rattle.heap_layout.specs.Bits.{bit};
 ghost use Rattle.heap_layout.specs.Heap.{Heap};
@@ -8,6 +8,7 @@ ghost use Rattle.stopped_heap.specs.Reached.{IsSound};
 ghost use Rattle.stopped_heap.specs.Settled.{collected, places};
 ghost use Rattle.stopped_heap.specs.Surveys.{marks_of};
 ghost use Rattle.young_heap.specs.Cards.{AreGathered, AreGatheredWeak, AreStored, AreUnasked};
+ghost use Rattle.young_heap.specs.Raising.{AreUnaskedFrom};
 ghost use Rattle.young_heap.specs.Rows.{IsInRow};
 ghost use Rattle.young_heap.specs.Young.{AreKeptBelow, AreOld, AreRemembered, HasCollectedYoung};
 
@@ -83,4 +84,19 @@ pub fn promoted_is_old()
         → ((j : ℕ) → old ≤ j → bit next j ≡ true → IsInRow edition after total old j)
         → ((j : ℕ) → IsInRow edition after total old j → bit next j ≡ true)
         → AreRemembered edition after next total [] [] }
+{}
+
+/// What `OldTables::raise` leaves keeps the premise of the next young collection, if of the objects that became old
+/// each reference and each weak word that is not asked for leads below the watermark as it is then. If those of all old
+/// objects lead below, no word has to be remembered: each card may be clean (`remembered_is_clean`). Here `next` are
+/// the starts that it leaves.
+pub fn raised_is_clean()
+    ensures clean { (edition : Edition) (words starts next : List ℕ) (old end : ℕ) (asked : ℕ → Bool)
+        → AreKeptBelow old starts next → old ≤ end
+        → AreUnasked edition words starts old asked
+        → AreUnaskedFrom edition words next old end asked
+        → AreUnasked edition words next end asked }
+    ensures all { (edition : Edition) (words next : List ℕ) (end : ℕ)
+        → AreUnaskedFrom edition words next 0 end (λ j. false)
+        → AreRemembered edition words next end [] [] }
 {}

@@ -19,6 +19,8 @@
 //! - `OldTables::collect_aging` collects as `collect_young` does, but an object becomes old only when it has survived
 //!   two collections: what was allocated since the last one stays young. It makes the cards anew; just those are dirty
 //!   that have a word of an old object that leads above.
+//! - `OldTables::raise` collects nothing, and makes old all that lies below an index: in place of a young collection,
+//!   where something young is pinned, and after a collection by which these tables did not go.
 //! - `OldTables::check` says whether the mutator kept that, for debug builds.
 //!
 //! The parts, over slices that the caller keeps right:
@@ -45,7 +47,8 @@
 //! - `dirtying`: cards that are made anew.
 //! - `aging`: a collection after which what was allocated since the last one is young still.
 //! - `checking`: whether what it believes is so.
-//! - `fault`, `old_tables`, `aging_tables`: the tables with a watermark, and their calls.
+//! - `raising`: a watermark that goes up with no collection.
+//! - `fault`, `old_tables`, `aging_tables`, `raised_tables`: the tables with a watermark, and their calls.
 //! - `laws`: what follows of the clauses.
 #![tactic(auto)]
 
@@ -64,6 +67,8 @@ mod marking;
 mod meeting;
 mod old_tables;
 mod promoting;
+mod raised_tables;
+mod raising;
 mod recounting;
 mod remembering;
 mod shape;
@@ -75,10 +80,10 @@ mod young;
 
 pub use checking::are_old;
 pub use collecting::collect_above;
-pub use fault::{OldFault, YoungFault};
+pub use fault::{OldFault, RaiseFault, YoungFault};
 pub use laws::{
     all_is_collected, collected_is_old, gathered_is_remembered, nothing_is_old, promoted_is_old,
-    remembered_is_clean, stored_is_clean,
+    raised_is_clean, remembered_is_clean, stored_is_clean,
 };
 pub use old_tables::OldTables;
 pub use promoting::promote;

@@ -64,7 +64,7 @@ fn meet_above(
     Ok(())
 }
 
-/// The same with these words, one after the other.
+/// Meets the objects to which these words lead, one after the other, as `meet_above` does.
 #[inline(always)]
 pub(crate) fn meet_all_above(
     edition: Edition,
@@ -94,7 +94,7 @@ pub(crate) fn meet_all_above(
     Ok(())
 }
 
-/// The same with the words at these indices.
+/// Meets the objects to which the words at these indices lead, as `meet_above` does.
 #[inline(always)]
 pub(crate) fn meet_fields(
     edition: Edition,

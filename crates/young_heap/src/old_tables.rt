@@ -24,13 +24,14 @@ use std::mem;
 const MOST_WORDS: usize = 1 << 31;
 
 /// Tables for collections of heaps of at most so many words, which know a watermark: the words below it are old. They
-/// are what the last collection left, or as much of it as has survived two. No collection allocates. Contracts see a
-/// `Watermarked`: `room`, the number of words of the largest heap; `watermark`, an index of words; `survived`, how many
-/// words the last collection left, which is not below the watermark; and `starts`, a bit for each word, set below the
-/// watermark at the first word of each old object.
+/// are what the last collection left, or as much of it as has survived two, or what `raise` made old. No collection
+/// allocates. Contracts see a `Watermarked`: `room`, the number of words of the largest heap; `watermark`, an index of
+/// words; `survived`, how many words the last collection left, or `raise`, which is not below the watermark; and
+/// `starts`, a bit for each word, set below the watermark at the first word of each old object.
 ///
 /// They have three bits for each word, 4 bytes for each 64 words, and 12 bytes for each word, of which a collection
-/// touches 4 for each young object that it meets, and 4 for each word of an old one that leads above.
+/// touches 4 for each young object that it meets, and 4 for each word of an old one that leads above. It passes over
+/// the bits and counts of the words that it is handed, from the watermark on, whatever room there is.
 #[derive(Drop)]
 pub struct OldTables {
     pub(crate) room: usize,

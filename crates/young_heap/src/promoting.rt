@@ -132,8 +132,49 @@ pub fn promote(
     recount(bits, counts, old / 64);
 }
 
-/// Makes `bits` those of the watermark `old`, all below it and none behind, and `counts` theirs. Unlike `promote` it
-/// reads no header.
+/// Makes the tables of the watermark `live` as `promote` does, but those of these words alone, whatever room they have:
+/// of what is behind the words nothing is said.
+pub(crate) fn promote_within(
+    edition: Edition,
+    words: &[u64],
+    old: usize,
+    live: usize,
+    heads: &mut [u64],
+    bits: &mut [u64],
+    counts: &mut [u32],
+)
+    requires few { length words.now ≤ 2 ^ 31 }
+    requires few_bits { length heads.old ≤ 2 ^ 25 }
+    requires order { old ≤ live }
+    requires inside { live ≤ length words.now }
+    requires room { length words.now ≤ 64 * length heads.old }
+    requires long { length bits.old ≡ length heads.old }
+    requires counts_long { length counts.old ≡ length bits.old + 1 }
+    requires ones { (i : ℕ) → i < old → bit bits.old i ≡ true }
+    requires offsets { (b : ℕ) → b ≤ old / 64 → slice_index counts.old b ≡ 64 * b }
+    ensures below { AreKeptBelow old heads.old heads.new }
+    ensures starts { (j : ℕ) → old ≤ j → j < live → bit heads.new j ≡ true → IsInRow edition words.now live old j }
+    ensures all { (j : ℕ) → IsInRow edition words.now live old j → bit heads.new j ≡ true }
+    ensures ones { (i : ℕ) → i < live → bit bits.new i ≡ true }
+    ensures offsets { (b : ℕ) → b ≤ live / 64 → slice_index counts.new b ≡ 64 * b }
+    ensures heads_long { length heads.new ≡ length heads.old }
+    ensures bits_long { length bits.new ≡ length bits.old }
+    ensures counts_long { length counts.new ≡ length counts.old }
+{
+    let blocks = words.len().div_ceil(64);
+    promote(
+        edition,
+        words,
+        old,
+        live,
+        &mut heads[..blocks],
+        &mut bits[..blocks],
+        &mut counts[..blocks + 1],
+    );
+}
+
+/// Makes `bits` those of the watermark `old`, all below it, and `counts` theirs, and leaves what is behind. Unlike
+/// `promote` it reads no header.
 pub(crate) fn set_below(bits: &mut [u64], counts: &mut [u32], old: usize)
     requires few_bits { length bits.old ≤ 2 ^ 25 }
     requires room { old ≤ 64 * length bits.old }
@@ -144,8 +185,11 @@ pub(crate) fn set_below(bits: &mut [u64], counts: &mut [u32], old: usize)
     ensures bits_long { length bits.new ≡ length bits.old }
     ensures counts_long { length counts.new ≡ length counts.old }
 {
+    // What is behind the watermark is not asked.
+    let blocks = old.div_ceil(64);
+    let bits = &mut bits[..blocks];
     clear_from(bits, 0);
     // No bit is set, so it takes them all.
     let _ = take_run(bits, 0, old);
-    recount(bits, counts, 0);
+    recount(bits, &mut counts[..blocks + 1], 0);
 }

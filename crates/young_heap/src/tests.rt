@@ -1,4 +1,5 @@
 //! Small heaps, with the words that a person reads off.
+mod raising;
 mod surviving;
 
 ghost use Rattle.std.specs.Prelude.{◌≡◌, ◌+◌, ◌≤◌, length};

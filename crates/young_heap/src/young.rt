@@ -75,6 +75,11 @@ pub(crate) fn collect_remembered(
     ensures queue_room { vec_capacity queue.old ≤ vec_capacity queue.new }
     ensures counts_stay { OnErr result ((b : ℕ) → b ≤ old / 64 → slice_index counts.new b ≡ 64 * b) }
 {
+    // The tables of these words, whatever room there is.
+    let blocks = words.len().div_ceil(64);
+    let heads = &mut heads[..blocks];
+    let bits = &mut bits[..blocks];
+    let counts = &mut counts[..blocks + 1];
     clear_from(heads, old);
     clear_from(bits, old);
     queue.clear();
@@ -85,8 +90,9 @@ pub(crate) fn collect_remembered(
     Ok(live)
 }
 
-/// The same by cards, as `OldTables::collect_young` says. What `fields` and `weaks` hold before is dropped; afterwards
-/// they are the indices of the references and of the weak words of old objects that were remembered.
+/// Collects what is young by cards, as `OldTables::collect_young` says. What `fields` and `weaks` hold before is
+/// dropped; afterwards they are the indices of the references and of the weak words of old objects that were
+/// remembered.
 ///
 /// `OutOfMemory` comes only if one of these has room for fewer than `old` indices, or the queue for fewer than there
 /// are words. `TooLarge` never comes.

@@ -2,7 +2,7 @@ use Rattle.std.proofs.Common.{◌≡◌, ℕ, ◌+◌, ◌<◌, true, get_or, in
 use Rattle.std.proofs.lemmas.Bool.{cases_lt}
 use Rattle.reachability.specs.Queue.{has}
 use Rattle.reachability.proofs.Queues.{has-at, place-of}
-use Rattle.young_heap.specs.Dirty.{AreMarked, LeadsAbove}
+use Rattle.young_heap.specs.Dirty.{LeadsAbove}
 use Rattle.young_heap.proofs.Made.{marked-as, marked-both, marked-none}
 use Rattle.young_heap.proofs.dirtying.mark_listed.Goals as goal
 

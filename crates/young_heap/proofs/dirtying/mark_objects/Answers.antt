@@ -1,9 +1,9 @@
-use Rattle.std.proofs.Common.{◌≡◌, ℕ, ◌+◌, ◌<◌, ◌≤◌, true, min, inl, inr, sym, ap, subst, ◌∙◌, arith}
-use Rattle.std.proofs.lemmas.Bool.{both_ways, cases_eq, cases_lt, cases_order}
+use Rattle.std.proofs.Common.{ℕ, ◌+◌, ◌<◌, ◌≤◌, inl, inr, ap, ◌∙◌, arith}
+use Rattle.std.proofs.lemmas.Bool.{both_ways, cases_order}
 use Rattle.heap_layout.specs.Bits.{bit}
 use Rattle.heap_layout.specs.Header.{refs_of, weak_of}
 use Rattle.heap_layout.specs.Heap.{header_at}
-use Rattle.young_heap.specs.Dirty.{AreMarked, IsWordFrom, LeadsAbove}
+use Rattle.young_heap.specs.Dirty.{IsWordFrom, LeadsAbove}
 use Rattle.young_heap.proofs.Made.{marked-as, marked-both, marked-none}
 use Rattle.young_heap.proofs.dirtying.mark_objects.Goals as goal
 
