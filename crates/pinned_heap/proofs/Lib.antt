@@ -6,6 +6,8 @@ mod Masks
 mod PinBits
 mod Listed
 mod Unpinned
-mod SlidingAround
+mod SlidingPart
+mod Whole
+mod Joining
 mod Found
 mod Both

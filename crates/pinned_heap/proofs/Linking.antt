@@ -116,7 +116,7 @@ end-low live staying (suc i) =
     omega (arith, one, start)
 
 -- among n words that are not live and do not stay nothing changes
-end-gap : (live staying : ℕ → Bool) (a n : ℕ) → ((j : ℕ) → a ≤ j → j < a + n → (live j ≡ false) × (staying j ≡ false)) → end_below live staying (a + n) ≡ end_below live staying a
+pub end-gap : (live staying : ℕ → Bool) (a n : ℕ) → ((j : ℕ) → a ≤ j → j < a + n → (live j ≡ false) × (staying j ≡ false)) → end_below live staying (a + n) ≡ end_below live staying a
 end-gap live staying a zero none = let e : a + 0 ≡ a = omega arith in ap (end_below live staying) e
 end-gap live staying a (suc n) none =
     let e : a + suc n ≡ suc (a + n) = omega arith in
@@ -129,7 +129,7 @@ end-gap live staying a (suc n) none =
     ∙ zero_more ∙ rest
 
 -- the live words of an object, of which the first one may stay, go side by side
-end-run : (live staying : ℕ → Bool) (a n : ℕ) → ((j : ℕ) → a ≤ j → j < a + suc n → live j ≡ true) → ((j : ℕ) → a < j → j < a + suc n → staying j ≡ false)
+pub end-run : (live staying : ℕ → Bool) (a n : ℕ) → ((j : ℕ) → a ≤ j → j < a + suc n → live j ≡ true) → ((j : ℕ) → a < j → j < a + suc n → staying j ≡ false)
     → end_below live staying (a + suc n) ≡ cond (staying a) a (end_below live staying a) + suc n
 end-run live staying a zero all none =
     let e : a + 1 ≡ suc a = omega arith in
@@ -152,6 +152,30 @@ place-live [] j there = absurd (let no : false ≡ true = there in cc)
 place-live (x ∷ xs) j there = elim (or_cases (x == j) (is_live xs j) there) [
   | inl here ↦ (0, omega arith, eqb-true x j here)
   | inr later ↦ (let at = place-live xs j later in (suc at.0, omega (arith, at.1), at.2))
+]
+
+-- a reference, which is null, an immediate or the address of a live object, leads where a weak word does
+pub same-kept : (edition : Edition) (heads bits stays : List ℕ) (word : ℕ) → IsValue edition (marks_of heads) word → led_to_place edition bits stays word ≡ kept_at_place edition heads bits stays word
+same-kept edition heads bits stays word value = elim (cases_Bool (is_immediate edition word)) [
+  | inl is ↦
+      ap (λ (b : Bool). cond b word (cond (word == 0) 0 (from_address (place_by bits stays (word - 2 ^ 32))))) is
+      ∙ ap (λ (b : Bool). cond b word (cond (is_address (bit heads) word) (from_address (place_by bits stays (word - 2 ^ 32))) 0)) (sym is)
+  | inr plain ↦ ap (cond (is_immediate edition word) word) (elim (value-cases edition (marks_of heads) word value) [
+    | inl immediate ↦ absurd (both_ways (is_immediate edition word) plain immediate)
+    | inr target ↦ elim (cases_eq word 0) [
+      | inl null ↦
+          ap (λ (w : ℕ). cond (w == 0) 0 (from_address (place_by bits stays (w - 2 ^ 32)))) null
+          ∙ ap (λ (w : ℕ). cond (is_address (bit heads) w) (from_address (place_by bits stays (w - 2 ^ 32))) 0) (sym null)
+      | inr other ↦
+          let some = ne_eqb word 0 other in
+          let is : is_address (bit heads) word ≡ true =
+          ap (λ (b : Bool). b || is_address (bit heads) word) (sym some)
+          ∙ ap (λ (test : ℕ → Bool). test word) (heads-lead heads)
+          ∙ target in
+          ap (λ (b : Bool). cond b 0 (from_address (place_by bits stays (word - 2 ^ 32)))) some
+          ∙ ap (λ (b : Bool). cond b (from_address (place_by bits stays (word - 2 ^ 32))) 0) (sym is)
+    ]
+  ])
 ]
 
 -- ---- of a survey's
@@ -187,7 +211,7 @@ module _ (edition : Edition) (words heads bits counts stays : List ℕ) (tables 
   object-is k = live-at edition words (marks_of heads) k
 
   -- a live word is a word of an object
-  owner : (j : ℕ) → bit bits j ≡ true → (k : ℕ) × (k < length (marks_of heads)) × (mark k ≤ j) × (j < mark k + size_at k)
+  pub owner : (j : ℕ) → bit bits j ≡ true → (k : ℕ) × (k < length (marks_of heads)) × (mark k ≤ j) × (j < mark k + size_at k)
   owner j set =
       let in_bits : is_live (set_bits bits) j ≡ true = passing-has (bit bits) (64 * length bits) j ∙ and_from (ltb j (64 * length bits)) (bit bits j) (lt-ltb j (64 * length bits) (bit-inside bits j set)) set in
       let there : is_live (live_indices objects) j ≡ true = ap (λ (xs : List ℕ). is_live xs j) (sym tables.indices) ∙ in_bits in
@@ -212,7 +236,7 @@ module _ (edition : Edition) (words heads bits counts stays : List ℕ) (tables 
   )
 
   -- the words of an object are live
-  inner : (k j : ℕ) → k < length (marks_of heads) → mark k ≤ j → j < mark k + size_at k → bit bits j ≡ true
+  pub inner : (k j : ℕ) → k < length (marks_of heads) → mark k ≤ j → j < mark k + size_at k → bit bits j ≡ true
   inner k j known le lt =
       let at : mark k + (j - mark k) ≡ j = omega (arith, le) in
       ap (bit bits) (sym at) ∙ live-bit edition words heads bits counts tables k (j - mark k) known (omega (arith, le, lt))
@@ -364,30 +388,3 @@ module _ (edition : Edition) (words heads bits counts stays : List ℕ) (tables 
             ap (λ (b : Bool). cond b (from_address (place_by bits stays (word - 2 ^ 32))) 0) fails
             ∙ ap (λ (b : Bool). cond b (around word) 0) (sym fails ∙ link-address word)
       ])
-
-  -- a reference, which is null, an immediate or the address of a live object, leads there too
-  same-kept : (word : ℕ) → IsValue edition (marks_of heads) word → led_to_place edition bits stays word ≡ kept_at_place edition heads bits stays word
-  same-kept word value = elim (cases_Bool (is_immediate edition word)) [
-    | inl is ↦
-        ap (λ (b : Bool). cond b word (cond (word == 0) 0 (from_address (place_by bits stays (word - 2 ^ 32))))) is
-        ∙ ap (λ (b : Bool). cond b word (cond (is_address (bit heads) word) (from_address (place_by bits stays (word - 2 ^ 32))) 0)) (sym is)
-    | inr plain ↦ ap (cond (is_immediate edition word) word) (elim (value-cases edition (marks_of heads) word value) [
-      | inl immediate ↦ absurd (both_ways (is_immediate edition word) plain immediate)
-      | inr target ↦ elim (cases_eq word 0) [
-        | inl null ↦
-            ap (λ (w : ℕ). cond (w == 0) 0 (from_address (place_by bits stays (w - 2 ^ 32)))) null
-            ∙ ap (λ (w : ℕ). cond (is_address (bit heads) w) (from_address (place_by bits stays (w - 2 ^ 32))) 0) (sym null)
-        | inr other ↦
-            let some = ne_eqb word 0 other in
-            let is : is_address (bit heads) word ≡ true =
-            ap (λ (b : Bool). b || is_address (bit heads) word) (sym some)
-            ∙ ap (λ (test : ℕ → Bool). test word) (heads-lead heads)
-            ∙ target in
-            ap (λ (b : Bool). cond b 0 (from_address (place_by bits stays (word - 2 ^ 32)))) some
-            ∙ ap (λ (b : Bool). cond b (from_address (place_by bits stays (word - 2 ^ 32))) 0) (sym is)
-      ]
-    ])
-  ]
-
-  pub led-value : (word : ℕ) → IsValue edition (marks_of heads) word → led_to_place edition bits stays word ≡ led_around edition (bit stays) (live (told edition words heads)) word
-  led-value word value = same-kept word value ∙ kept-value word

@@ -8,12 +8,14 @@ ghost use Rattle.stopped_heap.specs.Growth.{IsFoundIn};
 use crate::bases::bases;
 use crate::fault::PinFault;
 use crate::listing::{end_at, list_runs};
+use crate::parts::slide_around_by_threads;
 use crate::pinning::pin_all;
 use crate::placing::settle_all;
 use crate::run::Run;
 use crate::sliding::slide_around;
 use std::alloc::Global;
 use std::marker::Model;
+use std::thread::Threads;
 use stopped_heap::{LiveBits, Places};
 
 /// What a survey found, of which some objects stay where they are. Beside the tables of the survey it keeps a bit a word,
@@ -98,7 +100,7 @@ impl<'p> Pinned<'p> {
         &self.runs
     }
 
-    /// The same, to be kept.
+    /// The free words below the end, as `runs` has them, to be kept.
     pub fn into_runs(self) -> Vec<Run>
         ensures { (words : List ℕ) → IsFoundIn self.entry.found words → result.items ≡ runs_from (is_still self.entry) 0 (objects_in self.entry.found words) }
     {
@@ -112,6 +114,33 @@ impl<'p> Pinned<'p> {
         ensures { IsSlidAround (heap_now self.now.found words.old []) (is_still self.now) words.new }
     {
         slide_around(
+            self.places.edition(),
+            self.heads,
+            self.bits,
+            self.counts,
+            &self.stays,
+            &self.bases,
+            words,
+        );
+    }
+
+    /// The same in at most `threads` threads, the caller among them, and 64 at most. Between two objects that stay all
+    /// words are independent of the others: the words are cut where objects that stay start, so that about as many live
+    /// words are in each part, and each thread slides a part. So it gains where some objects stay that lie apart; where
+    /// none stays, or there are less than two threads, the caller slides alone. What is left is the same, word for
+    /// word, and no memory is asked for.
+    pub fn slide_within_by_threads<R: Threads + Sync>(
+        &self,
+        rt: &R,
+        threads: usize,
+        words: &mut [u64],
+    )
+        requires found { IsFoundIn self.now.found words.old }
+        ensures { IsSlidAround (heap_now self.now.found words.old []) (is_still self.now) words.new }
+    {
+        slide_around_by_threads(
+            rt,
+            threads,
             self.places.edition(),
             self.heads,
             self.bits,

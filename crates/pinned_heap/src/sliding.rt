@@ -5,6 +5,7 @@ ghost use Rattle.heap_layout.specs.Bits.{bit};
 ghost use Rattle.heap_layout.specs.Values.{is_immediate};
 ghost use Rattle.stopped_heap.specs.Surveys.{told, AreTables};
 ghost use Rattle.pinned_heap.specs.Around.{IsFilled, IsSlidAround};
+ghost use Rattle.pinned_heap.specs.Parts.{AreObjectsSlid, ArePartTables, IsPartSlid};
 ghost use Rattle.pinned_heap.specs.Tables.{kept_at_place, led_to_place, AreBases};
 
 use crate::filling::fill_run;
@@ -129,30 +130,86 @@ fn move_object(
 #[inline(always)]
 fn place_behind(
     edition: Edition,
-    stays: &[u64],
     words: &mut [u64],
     place: usize,
     start: usize,
+    stays: bool,
 ) -> usize
-    requires known { start < 64 * length stays.now }
     requires down { place ≤ start }
     requires inside { start ≤ length words.old }
     requires few { length words.old ≤ 2 ^ 31 }
-    ensures place { result ≡ cond (bit stays.now start) start place }
+    ensures place { result ≡ cond stays start place }
     ensures filled { place < result → IsFilled edition words.new (record { start = place; end = result }) }
     ensures before { (k : ℕ) → k < place → slice_index words.new k ≡ slice_index words.old k }
     ensures behind { (k : ℕ) → result ≤ k → slice_index words.new k ≡ slice_index words.old k }
     ensures length { length words.new ≡ length words.old }
 {
-    if is_set(stays, start) {
+    if stays {
         fill_run(edition, words, place, start);
         return start;
     }
     place
 }
 
-/// Slides the live objects down, around those that stay: each behind the one before, the first one to index 0. Fills the
-/// runs of free words before those that stay. The words behind the last object stay as they are.
+// Slides the live objects of a part of the words, which begins at word `low`: each behind the one before, the first
+// one to the start of the part. Fills the runs of free words before those that stay within it. Answers where the last
+// one ends; the words from there on stay as they are.
+fn slide_objects(
+    edition: Edition,
+    heads: &[u64],
+    bits: &[u64],
+    stays: &[u64],
+    bases: &[u32],
+    low: usize,
+    part: &mut [u64],
+) -> usize
+    requires bases { AreBases bits.now stays.now bases.now }
+    requires tables { ArePartTables edition heads.now bits.now stays.now low part.old }
+    ensures { AreObjectsSlid edition heads.now bits.now stays.now low part.old result part.new }
+{
+    let limit = (64 * heads.len()).min(low + part.len());
+    let mut next = low;
+    let mut place = 0;
+    while next < limit {
+        let start = next_set(heads, next);
+        if start >= limit {
+            return place;
+        }
+        let from = start - low;
+        place = place_behind(edition, part, place, from, is_set(stays, start));
+        let shape = shape_of(edition, part[from]);
+        move_object(edition, heads, bits, stays, bases, part, from, place, shape);
+        place += shape.size;
+        next = start + shape.size;
+    }
+    place
+}
+
+/// Slides the live objects of a part of the words down, around those that stay: each behind the one before. The part
+/// begins at word `low`, which is 0 or the start of an object that stays, and ends with the words or before such a
+/// start. Fills the runs of free words before objects that stay, also the one that ends where the part does. If the
+/// part ends with the words, those behind its last object stay as they are.
+pub(crate) fn slide_part(
+    edition: Edition,
+    heads: &[u64],
+    bits: &[u64],
+    stays: &[u64],
+    bases: &[u32],
+    low: usize,
+    part: &mut [u64],
+)
+    requires bases { AreBases bits.now stays.now bases.now }
+    requires tables { ArePartTables edition heads.now bits.now stays.now low part.old }
+    ensures { IsPartSlid edition heads.now bits.now stays.now low part.old part.new }
+{
+    let place = slide_objects(edition, heads, bits, stays, bases, low, part);
+    let end = low + part.len();
+    if end < 64 * stays.len() && is_set(stays, end) {
+        fill_run(edition, part, place, part.len());
+    }
+}
+
+/// Slides all live objects down, around those that stay: the part of the words that begins at word 0 is all of them.
 pub(crate) fn slide_around(
     edition: Edition,
     heads: &[u64],
@@ -167,20 +224,5 @@ pub(crate) fn slide_around(
     requires objects { (i : ℕ) → bit stays.now i ≡ true → bit heads.now i ≡ true }
     ensures { IsSlidAround (told edition words.old heads.now) (bit stays.now) words.new }
 {
-    let limit = 64 * heads.len();
-    let mut next = 0;
-    let mut place = 0;
-    while next < limit {
-        let start = next_set(heads, next);
-        if start >= limit {
-            return;
-        }
-        place = place_behind(edition, stays, words, place, start);
-        let shape = shape_of(edition, words[start]);
-        move_object(
-            edition, heads, bits, stays, bases, words, start, place, shape,
-        );
-        place += shape.size;
-        next = start + shape.size;
-    }
+    slide_part(edition, heads, bits, stays, bases, 0, words);
 }

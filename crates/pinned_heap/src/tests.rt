@@ -1,4 +1,6 @@
 //! Small heaps, with the words that a person reads off.
+mod by_threads;
+
 use crate::{CollectPinnedFault, Collected, collect_pinned};
 use heap_layout::{Edition, FROM_SPACE as F, Header};
 use std::process::Abort;
