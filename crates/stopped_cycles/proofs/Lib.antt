@@ -1,2 +1,5 @@
 pub mod Outside
+pub mod Numbers
+pub mod Moved
 pub mod Renumbering
+pub mod AroundPins

@@ -13,6 +13,9 @@ ghost use Rattle.comp_cycles.specs.declared.finished.Finished.{Finished as AFini
 ghost use Rattle.comp_cycles.specs.Stable.{StableHeap};
 ghost use Rattle.stopped_heap.specs.Reached.{IsSound};
 ghost use Rattle.stopped_heap.specs.Settled.{collected};
+ghost use Rattle.pinned_heap.specs.Collecting.{IsCollectedAround};
+ghost use Rattle.pinned_heap.specs.declared.run.Run.{Run};
+ghost use Rattle.stopped_cycles.specs.Left.{left_around};
 ghost use Rattle.stopped_cycles.specs.Outside.{IsOutside};
 
 /// What a collection leaves is the same heap in object numbers. If a stable heap stands for the marked objects of a
@@ -20,6 +23,16 @@ ghost use Rattle.stopped_cycles.specs.Outside.{IsOutside};
 /// each heap has such a stable heap. A weak word that is the address of no marked object is 0 there, before and after.
 pub fn collected_in_object_numbers()
     ensures { (heap : Heap) (numbers : List ℕ) (stable : StableHeap) → IsSound heap → IsNumberedAs heap numbers stable → IsNumberedAs (collected heap) numbers stable }
+{}
+
+/// What a collection around pinned objects leaves is the same heap in object numbers. If a stable heap stands for the
+/// marked objects of a heap, it stands for the heap that was left too, with the same numbers. That heap is sound: the
+/// next collection of its marked objects keeps the numbers too, around other pins or none.
+pub fn pinned_in_object_numbers()
+    ensures numbers { (heap : Heap) (pins : List ℕ) (end : ℕ) (runs : List Run) (roots after : List ℕ) (numbers : List ℕ) (stable : StableHeap)
+        → IsCollectedAround heap pins end runs roots after → IsNumberedAs heap numbers stable → IsNumberedAs (left_around heap pins roots after) numbers stable }
+    ensures sound { (heap : Heap) (pins : List ℕ) (end : ℕ) (runs : List Run) (roots after : List ℕ)
+        → IsCollectedAround heap pins end runs roots after → IsSound (left_around heap pins roots after) }
 {}
 
 /// A word that no object has at the end of a cycle is 0, in to-space and in the next heap. An object has the words from

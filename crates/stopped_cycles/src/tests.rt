@@ -1,10 +1,12 @@
-//! One heap, worked by hand, collected in both ways: at rest, and by a cycle whose one mutator does nothing.
+//! One heap, worked by hand, collected in three ways: at rest, around a pin, and by a cycle whose one mutator does
+//! nothing.
 ghost use Rattle.std.specs.Prelude.{◌≡◌};
 ghost use Rattle.comp_cycles.specs.Ends.{IsEndOf};
 
 use comp_mutator::{Finished, flip};
 use heap_layout::{Edition, FIRST_IMMEDIATE as I, FROM_SPACE as F, Header, MarkedHeap};
 use page_plan::Plan;
+use pinned_heap::collect_pinned;
 use reachable_cycles::next_reachable;
 use std::alloc::Global;
 use std::marker::Brand;
@@ -126,6 +128,51 @@ fn a_collection_at_rest_leaves_the_same(rt: HostRuntime) {
     assert_eq!(&rt; &to[..11], three().as_slice());
     assert_eq!(&rt; &to[11..], [7; 5].as_slice());
     assert_eq!(&rt; roots, ROOTS_LEFT);
+}
+
+// The object at 2 stays. The others slide to 8 and 12, and the two words before it are one object of two words. The
+// weak word that was the address of the dead object at 8 is null, though an object stands there now.
+#[test]
+fn a_collection_around_a_pin_leaves_the_same_objects(rt: HostRuntime) {
+    let mut words = six();
+    let mut roots = ROOTS;
+    let left = collect_pinned(
+        rt.alloc(),
+        Edition::Four,
+        &mut words,
+        &mut roots,
+        &[F + 2],
+        1,
+    );
+    let Ok(left) = left else {
+        panic!(&rt; "it was refused");
+    };
+    assert_eq!(&rt; left.end, 13);
+    assert_eq!(&rt; left.runs.len(), 1);
+    assert_eq!(&rt; left.runs[0].start, 0);
+    assert_eq!(&rt; left.runs[0].end, 2);
+    assert_eq!(&rt; roots, [0, F + 12, F + 2, I, F + 12]);
+    assert_eq!(&rt;
+        words,
+        [
+            (1 << 63) + 1,
+            F + 9,
+            Header::new_weak(2, 2, 1, 2).word(),
+            F + 2,
+            F + 8,
+            0,
+            F + 8,
+            F + 2,
+            Header::new_weak(2, 1, 0, 4).word(),
+            F + 2,
+            I + F,
+            0,
+            Header::new_weak(0, 0, 0, 5).word(),
+            Header::new_weak(0, 0, 0, 5).word(),
+            Header::new_weak(0, 1, 0, 6).word(),
+            F + 2,
+        ]
+    );
 }
 
 #[test]
