@@ -36,10 +36,11 @@ STRUCTS = {
     "PlanFacts": "compressor_plan_facts",
     "SurveyFacts": "compressor_survey_facts",
 }
-# These variants have another name in C. No call of C is answered NotInEdition.
+# This status has no name in C: no call of C is answered so.
+NOT_IN_C = {"NOT_IN_EDITION": 5}
+# These variants have another name in C.
 VARIANTS = {
     "Refusal::Null": "NULL_OBJECT",
-    "Refusal::NotInEdition": None,
     "LayoutFault::Truncated": "IMAGE_TRUNCATED",
     "LayoutFault::TrailingBytes": "IMAGE_TRAILING",
     "LayoutFault::BadMagic": "IMAGE_BAD_MAGIC",
@@ -176,6 +177,34 @@ def name_of(variant):
     return VARIANTS.get(variant, re.sub(r"(?<!^)([A-Z])", r"_\1", own).upper())
 
 
+def named(crate):
+    """The statuses by their names: as the code has them, and as the specs do; but DONE, which is 0 in both."""
+    consts = re.findall(r"^pub\(crate\) const (\w+): u32 = (\d+);", (crate / "src/status.rt").read_text(), flags=re.M)
+    abbrevs = re.findall(r"^(\w+) = (\d+)$", (crate / "specs/Statuses.antt").read_text(), flags=re.M)
+    yield "src/status.rt", {name: int(n) for name, n in consts}
+    yield "specs/Statuses.antt", {name.upper(): int(n) for name, n in abbrevs}
+
+
+def compare_statuses(statuses, crate, answers):
+    """What differs in the names of statuses and their numbers, in their use, or in which fault has which."""
+    want = {**statuses, **NOT_IN_C}
+    want.pop("DONE")
+    for own, have in named(crate):
+        for name in sorted({*have, *want}):
+            if have.get(name) != want.get(name):
+                yield f"{name}: the header has {want.get(name)}, {own} of comp_handle has {have.get(name)}"
+    used = {*re.findall(r"\bstatus::(\w+)", answers)}
+    if used != {*want}:
+        yield f"statuses that are no answer, or have no name: {sorted(used ^ {*want})}"
+    specs = "".join(re.sub(r"--.*", "", it.read_text()) for it in sorted((crate / "specs").glob("*.antt")))
+    by_number = re.findall(r"Answer::(?:bare|two)\(\s*\d+|place\([^;{}]*, \d+\)|\b(?:bare|two|IsPlace) [1-9]\d*", answers + specs)
+    if by_number:
+        yield f"statuses that stand by their number: {sorted({*by_number})}"
+    for variant, name in re.findall(r"(\w+Fault::\w+|Refusal::\w+)(?:\([^)]*\))? => Answer::(?:bare|two)\(\s*status::(\w+)", answers):
+        if name_of(variant) != name:
+            yield f"{variant} is answered {name}, and not {name_of(variant)}"
+
+
 def number(text):
     """The number that a constant of C or of Rattle says."""
     text = re.sub(r"UINT64_C\((\w+)\)", r"\1", text.replace("_", "") if "UINT" not in text else text)
@@ -205,15 +234,7 @@ def compare(crates):
             yield f"{name}: the header has {have}, {own} has {in_rattle.get(own)}"
     enum = re.search(r"typedef enum compressor_status \{(.*?)\}", text, flags=re.S).group(1)
     statuses = {name: int(n) for name, n in re.findall(r"COMPRESSOR_(\w+) = (\d+)", enum)}
-    numbers = {int(n) for n in re.findall(r"Answer::(?:bare|two)\((\d+),|Answer::place\([^;]*?(\d+)\)", answers) for n in n if n}
-    lacking = {number for number in numbers if number not in statuses.values()} - {5}
-    unused = {name for name, n in statuses.items() if n not in numbers and n}
-    if lacking or unused:
-        yield f"statuses without a name: {sorted(lacking)}; names that are no answer: {sorted(unused)}"
-    for variant, n in re.findall(r"(\w+Fault::\w+|Refusal::\w+)(?:\([^)]*\))? => Answer::(?:bare|two)\((\d+)", answers):
-        name = name_of(variant)
-        if name and statuses.get(name) != int(n):
-            yield f"{variant} is answered {n}, and {name} is {statuses.get(name)}"
+    yield from compare_statuses(statuses, crates / "comp_handle", answers)
     texts = re.findall(r"COMPRESSOR_CASE_\((\w+)\)(?! case)", text)
     if texts != list(statuses):
         yield f"texts of statuses: {sorted({*texts} ^ {*statuses})}, or their order"

@@ -47,6 +47,7 @@ static void ask_empty(all *a) {
     EMPTY(collect_young, &a->old, 9, a->words, 1, a->bytes, 1, a->words + 1, 1);
     EMPTY(collect_young_by, &a->old, 9, a->words, 1, a->words + 2, 1, a->words + 1, 1);
     EMPTY(collect_aging, &a->old, 9, a->words, 1, a->bytes, 1, a->words + 1, 1);
+    EMPTY(old_raise, &a->old, 9, a->words, 1, 1);
     EMPTY(old_check, &a->old, 9, a->words, 1, a->bytes, 1);
     EMPTY(growing_begin_lent, &a->tables, 9, a->words, 1, &a->growing);
     EMPTY(growing_also, &a->growing, a->words, 1, a->words + 1, 1);
@@ -234,6 +235,7 @@ static void ask_full(all *a, compressor_heap *heap) {
     WRONG(collect_young, (compressor_old *)(void *)&a->tables, 4, a->words, 3, a->bytes, 1, a->words + 3, 1);
     WRONG(collect_young_by, (compressor_old *)(void *)&a->heap, 4, a->words, 3, a->words + 4, 1, a->words + 3, 1);
     WRONG(collect_aging, (compressor_old *)(void *)&a->tables, 4, a->words, 3, a->bytes, 1, a->words + 3, 1);
+    WRONG(old_raise, (compressor_old *)(void *)&a->tables, 4, a->words, 3, 3);
     WRONG(old_check, (compressor_old *)(void *)&a->job, 4, a->words, 3, a->bytes, 1);
     WRONG(collect_in_place_lent, (compressor_tables *)(void *)&a->old, 4, a->words, 3, a->words + 3, 1);
     WRONG(growing_also, (compressor_growing *)(void *)&a->survey, a->words, 3, a->words, 1);

@@ -58,8 +58,8 @@ static void largest(compressor_end *end) {
 }
 
 void limits_round(void) {
-    enum { ROOTS = 4097 };
-    uint64_t *roots = (uint64_t *)zeros(ROOTS, sizeof *roots);
+    enum { ROOTS = 4097, MANY = (1 << 20) + 1 };
+    uint64_t *roots = (uint64_t *)zeros(ROOTS, sizeof *roots), *many = (uint64_t *)zeros(MANY, sizeof *many);
     uint64_t words[2] = {0, 0}, to[2] = {0, 0}, runs = 0;
     compressor_heap heap = COMPRESSOR_EMPTY;
     compressor_survey survey = COMPRESSOR_EMPTY;
@@ -88,6 +88,7 @@ void limits_round(void) {
         ANSWERS(COMPRESSOR_TOO_LARGE, 0, collect_young, &old, edition, words, 2, bytes, 1, roots, ROOTS);
         ANSWERS(COMPRESSOR_TOO_LARGE, 0, collect_young_by, &old, edition, words, 2, to, 0, roots, ROOTS);
         ANSWERS(COMPRESSOR_TOO_LARGE, 0, collect_aging, &old, edition, words, 2, bytes, 1, roots, ROOTS);
+        ANSWERS(COMPRESSOR_TOO_LARGE, 0, old_raise, &old, edition, many, MANY, 0);
         DONE(0, collect_all, &old, edition + 2, words, 2, roots, ROOTS);
         ANSWERS(COMPRESSOR_TOO_LARGE, 0, survey_by_roots, edition, words, 2, roots, ROOTS, &survey);
         ANSWERS(COMPRESSOR_TOO_LARGE, 0, survey_by_roots_lent, &tables, edition, words, 2, roots, ROOTS, &survey);
@@ -118,4 +119,5 @@ void limits_round(void) {
     DROP(old_return, &old);
     SAME(blocks_kept(), 0);
     free(roots);
+    free(many);
 }

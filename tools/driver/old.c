@@ -129,6 +129,7 @@ static void refuse(aged *s, uint64_t *roots) {
         ANSWERS(COMPRESSOR_SHORT_TABLES, room, collect_young, &small, HEAP, CARDS, ROOTS);
         ANSWERS(COMPRESSOR_SHORT_TABLES, room, collect_young_by, &small, HEAP, fields, 0, ROOTS);
         ANSWERS(COMPRESSOR_SHORT_TABLES, room, collect_aging, &small, HEAP, CARDS, ROOTS);
+        ANSWERS(COMPRESSOR_SHORT_TABLES, room, old_raise, &small, HEAP, below(2 * used));
         DROP(old_return, &small);
     }
     if (s->watermark > 0) {
@@ -266,6 +267,49 @@ static void collect_space(aged *s, enum way way) {
     free(wanted_roots);
 }
 
+/* The watermark goes up in place of a collection, to the end of an object; below it no words are free, since the model
+   does not know such. All stays where it is. Other tables are raised to the end of the words. */
+static void raise_old(aged *s) {
+    const graph *g = s->g;
+    const uint64_t used = s->space.used, bad = 5 + below(1000);
+    uint64_t *was = copy_of(s->words, used), *missed = (uint64_t *)zeros(used, sizeof *missed);
+    uint64_t row = s->watermark, end;
+    unsigned char *clean = (unsigned char *)zeros(compressor_cards_of(used), 1);
+    compressor_old other = COMPRESSOR_EMPTY;
+    DONE(0, old_reserve, s->room, &other);
+    DONE(used, old_raise, &other, HEAP, used);
+    DONE(0, old_check, &other, HEAP, clean, compressor_cards_of(used));
+    DROP(old_return, &other);
+    for (size_t i = 0; i < g->count; i++)
+        if (g->objects[i].place == row) row += g->objects[i].words;
+    end = row;
+    for (size_t i = 0; i < g->count; i++) {
+        const object *o = &g->objects[i];
+        if (o->place < s->watermark || o->place >= row) continue;
+        if (one_in(20)) end = o->place;
+        if (o->words == 1 || !one_in(20)) continue;
+        ANSWERS(COMPRESSOR_NOT_A_ROW, o->place, old_raise, &s->old, HEAP, o->place + 1 + below(o->words - 1));
+    }
+    ANSWERS(COMPRESSOR_BAD_EDITION, bad, old_raise, &s->old, (uint32_t)bad, s->words, used, end);
+    ANSWERS(COMPRESSOR_FEW_WORDS, used + 1, old_raise, &s->old, HEAP, used + 1);
+    if (s->watermark > 0)
+        ANSWERS(COMPRESSOR_BELOW_WATERMARK, s->watermark, old_raise, &s->old, HEAP, below(s->watermark));
+    DONE(s->watermark, watermark, &s->old);
+    DONE(end, old_raise, &s->old, HEAP, end);
+    DONE(end, watermark, &s->old);
+    SAME_WORDS(s->words, was, used);
+    s->left = s->watermark = end;
+    if (end == used) {
+        IS(above(s, 0, NULL) == 0); /* all leads below: each card may be clean */
+        memset(s->cards, 0, compressor_cards_of(used));
+    }
+    for (uint64_t count = above(s, 1, missed), i = 0; i < count; i++) s->cards[missed[i] / 64] = 1;
+    DONE(0, old_check, &s->old, HEAP, CARDS);
+    free(was);
+    free(missed);
+    free(clean);
+}
+
 /* The graph lies at rest in these words. The copy of them that is collected goes; the graph is as it left it. */
 void old_round(graph *g, const uint64_t *words, uint64_t count) {
     aged all = {g, {0}, COMPRESSOR_EMPTY, NULL, count + 1500, NULL, 0, 0}, *s = &all;
@@ -278,7 +322,9 @@ void old_round(graph *g, const uint64_t *words, uint64_t count) {
     DONE(0, old_reserve, s->room, &s->old);
     DONE(0, watermark, &s->old);
     for (uint64_t times = 1 + below(24); times > 0; times--) {
-        const enum way way = by_cards ? (enum way)below(WAYS) : one_in(8) ? ALL : BY;
+        enum way way;
+        if (s->left > 0 && one_in(5)) raise_old(s); /* since a collection there is a row */
+        way = by_cards ? (enum way)below(WAYS) : one_in(8) ? ALL : BY;
         if (way != BY) check(s);
         if (way != BY && one_in(4)) collect_space(s, way);
         else collect(s, way);

@@ -229,20 +229,22 @@ refusals! {
     212 MISSING_OBJECT MissingObject { index };
     /// The lanes are of two editions, or not of as many words.
     213 OTHER_HEAP OtherHeap;
-    /// There are fewer words than these, the watermark.
+    /// There are fewer words than these, the watermark, or those that are to be old.
     221 FEW_WORDS FewWords { words };
     /// There are fewer cards than these, one for each 64 words below the watermark.
     222 FEW_CARDS FewCards { cards };
     /// No reference or weak word of an old object has this index, which was handed in.
     223 NOT_A_FIELD NotAField { index };
-    /// Before the word with this index old objects lie in a row, as the last collection left them; there it does not
-    /// go on.
+    /// Before the word with this index old objects lie in a row, as the last collection left them, or objects that are
+    /// to be old; there it does not go on.
     224 NOT_A_ROW NotARow { index };
     /// The word with this index is a reference or weak word of an old object, its card is clean, and it leads to no
     /// old object.
     225 LEADS_ABOVE LeadsAbove { index };
     /// The pin with this number leads to no word of the heap.
     226 BAD_PIN BadPin { number };
+    /// The end is below this, the watermark, which is only raised.
+    227 BELOW_WATERMARK BelowWatermark { watermark };
     /// A handle of another kind. None is here.
     255 WRONG_HANDLE WrongHandle;
 }

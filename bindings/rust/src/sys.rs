@@ -144,6 +144,8 @@ unsafe extern "C" {
     pub fn compressor_collect_aging(
         old: &mut Old, edition: u32, words: *mut u64, word_count: usize, cards: *mut u8,
         card_count: usize, roots: *mut u64, root_count: usize) -> Answer;
+    pub fn compressor_old_raise(
+        old: &mut Old, edition: u32, words: *const u64, word_count: usize, end: u64) -> Answer;
     pub fn compressor_old_check(
         old: &mut Old, edition: u32, words: *const u64, word_count: usize, cards: *const u8,
         card_count: usize) -> Answer;

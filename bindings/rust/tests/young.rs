@@ -1,6 +1,6 @@
 //! Young collections: what is old stays where it is, and what is young slides down to it.
 
-use compressor::rest::{Buffer, Cards, OldTables, Space, CARD};
+use compressor::rest::{Buffer, Cards, OldTables, Pins, Space, CARD};
 use compressor::{Edition, Refusal, Shape, Value};
 
 const FOUR: Edition = Edition::Four;
@@ -126,6 +126,38 @@ fn a_list_serves_in_place_of_cards() {
         assert_eq!(refused, Err(Refusal::NotAField { index: strange }));
     }
     assert_eq!(heap.space.collect_young_by(&mut heap.old, &mut [], &mut roots), Ok(6));
+}
+
+#[test]
+fn young_collections_go_on_around_pins() {
+    let (mut heap, pins) = (Heap::new(), Pins::default());
+    let mut roots = [heap.pair(number(1), Value::NULL)];
+    assert_eq!(heap.collect_all(&mut roots), Ok(3));
+    let _ = heap.pair(number(7), Value::NULL);
+    let held = heap.pair(number(2), Value::NULL);
+    heap.store(roots[0], 1, held);
+    let pin = pins.pin(held);
+
+    // In place of a young collection all becomes old where it stands.
+    let used = heap.space.used();
+    assert_eq!(heap.space.raise(&mut heap.old, &mut heap.cards, &mut roots), Ok(used));
+    assert_eq!((heap.old.watermark(), heap.cards.dirty(used)), (used, 0));
+    assert_eq!(heap.collect_young(&mut roots), Ok(used));
+    assert_eq!(heap.space.load(roots[0], 1), held);
+    let refused = heap.old.raise(FOUR, heap.space.words(), 3);
+    assert_eq!(refused, Err(Refusal::BelowWatermark { watermark: used }));
+
+    // All is collected around the pin, and what is left is old.
+    assert_eq!(heap.space.collect_pinned(&pins, &mut roots), Ok(6));
+    assert_eq!(heap.old.collect_all(FOUR, &mut [], &mut []), Ok(0));
+    let refused = heap.old.raise(FOUR, heap.space.words(), 5);
+    assert_eq!(refused, Err(Refusal::NotARow { index: 3 }));
+    assert_eq!(heap.space.raise(&mut heap.old, &mut heap.cards, &mut roots), Ok(9));
+    let young = heap.pair(number(3), Value::NULL);
+    heap.store(held, 1, young);
+    assert_eq!(heap.collect_young(&mut roots), Ok(12));
+    assert_eq!(heap.numbers(roots[0]), [1, 2, 3]);
+    assert_eq!(pin.object(), held);
 }
 
 #[test]

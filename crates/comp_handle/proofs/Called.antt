@@ -2,6 +2,7 @@
 use Rattle.std.proofs.Common.{◌≡◌, ℕ, List, Option, Some, refl, sym, subst}
 use Rattle.comp_crew.specs.declared.member.Member.{Member}
 use Rattle.comp_handle.specs.Answers.{bare}
+use Rattle.comp_handle.specs.Statuses.{wrong_handle}
 use Rattle.comp_handle.specs.Calling.{Calls}
 use Rattle.comp_handle.specs.HandleKinds.{mutator_in, Asks}
 use Rattle.comp_handle.specs.Seeing.{CopiesSeen, SeesBy}
@@ -15,7 +16,7 @@ module _ (Q : Member → Answer → Type 0) (R : Type 0) (old : Option Kept) (a 
   asked m b e g h = subst (λ (o : Option Kept). Asks 0 mutator_in Q R o a) (sym e) (subst (λ (x : Answer). Q m x) (sym g) h)
 
   -- it keeps something else
-  pub not_asked : (k : Kept) → ((m : Member) → k ≡ Mutator m → ⊥) → old ≡ Some k → a ≡ bare 255 0 → R → Asks 0 mutator_in Q R old a
+  pub not_asked : (k : Kept) → ((m : Member) → k ≡ Mutator m → ⊥) → old ≡ Some k → a ≡ bare wrong_handle 0 → R → Asks 0 mutator_in Q R old a
   not_asked Nothing never e g r = subst (λ (o : Option Kept). Asks 0 mutator_in Q R o a) (sym e) (g, r)
   not_asked (Heap heap) never e g r = subst (λ (o : Option Kept). Asks 0 mutator_in Q R o a) (sym e) (g, r)
   not_asked (Plan plan) never e g r = subst (λ (o : Option Kept). Asks 0 mutator_in Q R o a) (sym e) (g, r)
@@ -36,13 +37,13 @@ module _ (P : Member → Member → Answer → Type 0) (old new : Option Kept) (
   pub called : (m n : Member) (b : Answer) → old ≡ Some (Mutator m) → new ≡ Some (Mutator n) → a ≡ b → P m n b → Calls P old new a
   called m n b e f g h = asked (λ x y. (z : Member) × (new ≡ Some (Mutator z)) × P x z y) (new ≡ old) old a m b e g (n, f, h)
 
-  pub not_called : (k : Kept) → ((m : Member) → k ≡ Mutator m → ⊥) → old ≡ Some k → new ≡ Some k → a ≡ bare 255 0 → Calls P old new a
+  pub not_called : (k : Kept) → ((m : Member) → k ≡ Mutator m → ⊥) → old ≡ Some k → new ≡ Some k → a ≡ bare wrong_handle 0 → Calls P old new a
   not_called k never e f g = not_asked (λ x y. (z : Member) × (new ≡ Some (Mutator z)) × P x z y) (new ≡ old) old a k never e g (subst (λ (o : Option Kept). new ≡ o) (sym e) f)
 
 module _ (p : ℕ) (before after : List ℕ) (old new : Option Kept) (a : Answer) where
   pub saw : (m n : Member) (b : Answer) → old ≡ Some (Mutator m) → new ≡ Some (Mutator n) → a ≡ b → CopiesSeen p before after m n b → SeesBy p before after old new a
   saw m n b e f g h = asked (λ x y. (z : Member) × (new ≡ Some (Mutator z)) × CopiesSeen p before after x z y) ((new ≡ old) × (after ≡ before)) old a m b e g (n, f, h)
 
-  pub not_seen : (k : Kept) → ((m : Member) → k ≡ Mutator m → ⊥) → old ≡ Some k → new ≡ Some k → a ≡ bare 255 0 → after ≡ before → SeesBy p before after old new a
+  pub not_seen : (k : Kept) → ((m : Member) → k ≡ Mutator m → ⊥) → old ≡ Some k → new ≡ Some k → a ≡ bare wrong_handle 0 → after ≡ before → SeesBy p before after old new a
   not_seen k never e f g same =
       not_asked (λ x y. (z : Member) × (new ≡ Some (Mutator z)) × CopiesSeen p before after x z y) ((new ≡ old) × (after ≡ before)) old a k never e g (subst (λ (o : Option Kept). new ≡ o) (sym e) f, same)

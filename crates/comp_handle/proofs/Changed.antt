@@ -2,6 +2,7 @@
 use Rattle.std.proofs.Common.{◌≡◌, Option, Some, refl, sym, ap, subst}
 use Rattle.young_heap.specs.Tables.{Watermarked}
 use Rattle.comp_handle.specs.Answers.{bare}
+use Rattle.comp_handle.specs.Statuses.{wrong_handle}
 use Rattle.comp_handle.specs.HandleKinds.{old_in}
 use Rattle.comp_handle.specs.Young.{ChangesOld}
 use Rattle.comp_handle.specs.declared.answer.Answer.{Answer}
@@ -15,7 +16,7 @@ module _ (P : Watermarked → Watermarked → Answer → Type 0) (R : Type 0) (f
       subst (λ (o : Option Kept). ChangesOld P R o left a) (sym e) (u, ap old_in f, subst (λ (x : Answer). P t u x) (sym g) h)
 
   -- it keeps something else
-  pub unchanged : (k : Kept) → ((t : Watermarked) → k ≡ Old t → ⊥) → from ≡ Some k → left ≡ Some k → a ≡ bare 255 0 → R → ChangesOld P R from left a
+  pub unchanged : (k : Kept) → ((t : Watermarked) → k ≡ Old t → ⊥) → from ≡ Some k → left ≡ Some k → a ≡ bare wrong_handle 0 → R → ChangesOld P R from left a
   unchanged Nothing never e f g r = subst (λ (o : Option Kept). ChangesOld P R o left a) (sym e) (g, (f, r))
   unchanged (Heap heap) never e f g r = subst (λ (o : Option Kept). ChangesOld P R o left a) (sym e) (g, (f, r))
   unchanged (Plan plan) never e f g r = subst (λ (o : Option Kept). ChangesOld P R o left a) (sym e) (g, (f, r))

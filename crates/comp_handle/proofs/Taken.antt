@@ -6,6 +6,7 @@ use Rattle.comp_crew.specs.Members.{number_of_member}
 use Rattle.comp_crew.specs.declared.bench.Bench.{Bench}
 use Rattle.comp_crew.specs.declared.member.Member.{Member}
 use Rattle.comp_handle.specs.Answers.{bare, done}
+use Rattle.comp_handle.specs.Statuses.{not_empty}
 use Rattle.comp_handle.specs.Crewing.{IsUnsplit, IsUntaken, Splits, Takes}
 use Rattle.comp_handle.specs.declared.answer.Answer.{Answer}
 use Rattle.comp_handle.specs.declared.crewing.Seated.{Seated}
@@ -13,7 +14,7 @@ use Rattle.comp_handle.specs.declared.kept.Kept.{Kept}
 use Rattle.comp_handle.specs.declared.kept.Kept.TheVariants as kept
 
 -- why none leaves a crew that is kept
-pub unsplit : (full : Bool) (k : Kept) (bench : Bench) (a : Answer) → k ≡ kept.Crew bench → full ≡ true → a ≡ bare 11 1 → IsUnsplit full k a
+pub unsplit : (full : Bool) (k : Kept) (bench : Bench) (a : Answer) → k ≡ kept.Crew bench → full ≡ true → a ≡ bare not_empty 1 → IsUnsplit full k a
 unsplit full k bench a at is answer = subst (λ (x : Kept). IsUnsplit full x a) (sym at) (inl (is, answer))
 
 pub unseated : (full : Bool) (k : Kept) (bench : Bench) (a : Answer) → k ≡ kept.Crew bench → full ≡ false → IsUntaken bench a → IsUnsplit full k a

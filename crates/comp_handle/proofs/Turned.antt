@@ -2,6 +2,7 @@
 use Rattle.std.proofs.Common.{◌≡◌, Bool, true, false, ◌⊎◌, inl, inr, Option, Some, None, is_some, IsTrue, IsFalse, MatchOption, refl, sym, ap, subst, ◌∙◌}
 use Rattle.std.proofs.lemmas.Bool.{false≢true}
 use Rattle.comp_handle.specs.Answers.{bare}
+use Rattle.comp_handle.specs.Statuses.{not_empty, wrong_handle}
 use Rattle.comp_handle.specs.HandleKinds.{Fills, Settles, Turns, TurnsKept}
 use Rattle.comp_handle.specs.declared.answer.Answer.{Answer}
 use Rattle.comp_handle.specs.declared.kept.Kept.{Kept}
@@ -26,13 +27,13 @@ module _ {X : Type 0} (find : Option Kept → Option X) (Makes : X → Option Ke
   -- a turn of what is kept, given what it is of the kind that is asked for
   abbrev TurnsAt : Option X → Bool → Kept → Kept → Bool → Answer → Type 0
   TurnsAt o full k l goes a =
-      MatchOption o (IsFalse goes × (l ≡ k) × (a ≡ bare 255 0))
-      (λ x. (IsTrue full × IsFalse goes × (l ≡ k) × (a ≡ bare 11 1)) ⊎ (IsFalse full × ((IsTrue goes × Makes x (Some l) a) ⊎ (IsFalse goes × (l ≡ k) × Stays x a))))
+      MatchOption o (IsFalse goes × (l ≡ k) × (a ≡ bare wrong_handle 0))
+      (λ x. (IsTrue full × IsFalse goes × (l ≡ k) × (a ≡ bare not_empty 1)) ⊎ (IsFalse full × ((IsTrue goes × Makes x (Some l) a) ⊎ (IsFalse goes × (l ≡ k) × Stays x a))))
 
   -- the same of two handles
   abbrev TurnsBy : Option X → Kept → Option Kept → Option Kept → Option Kept → Answer → Type 0
   TurnsBy o k left to new a =
-      MatchOption o ((a ≡ bare 255 0) × ((left ≡ Some k) × (new ≡ to))) (λ x. Fills 1 (λ now c. ((left ≡ None) × Makes x now c) ⊎ ((left ≡ Some k) × (now ≡ None) × Stays x c)) (left ≡ Some k) to new a)
+      MatchOption o ((a ≡ bare wrong_handle 0) × ((left ≡ Some k) × (new ≡ to))) (λ x. Fills 1 (λ now c. ((left ≡ None) × Makes x now c) ⊎ ((left ≡ Some k) × (now ≡ None) × Stays x c)) (left ≡ Some k) to new a)
 
   in_turn : (k l : Kept) (left new : Option Kept) (a : Answer) (o : Option X) (goes full : Bool) (to : Option Kept) → full ≡ is_some to → TurnsAt o full k l goes a → Settles goes l left to new → TurnsBy o k left to new a
   in_turn k l left new a None true full to is h s = absurd (false≢true (sym h.0))
@@ -57,11 +58,11 @@ module _ {X : Type 0} (find : Option Kept → Option X) (Makes : X → Option Ke
 
   module _ (full : Bool) (k l : Kept) (goes : Bool) (a : Answer) where
     -- it is of another kind
-    pub kept_other : find (Some k) ≡ None → goes ≡ false → l ≡ k → a ≡ bare 255 0 → TurnsKept find Makes Stays full k l goes a
+    pub kept_other : find (Some k) ≡ None → goes ≡ false → l ≡ k → a ≡ bare wrong_handle 0 → TurnsKept find Makes Stays full k l goes a
     kept_other at stays same is = subst (λ (o : Option X). TurnsAt o full k l goes a) (sym at) (stays, same, is)
 
     -- the second handle is full
-    pub kept_full : (x : X) → find (Some k) ≡ Some x → full ≡ true → goes ≡ false → l ≡ k → a ≡ bare 11 1 → TurnsKept find Makes Stays full k l goes a
+    pub kept_full : (x : X) → find (Some k) ≡ Some x → full ≡ true → goes ≡ false → l ≡ k → a ≡ bare not_empty 1 → TurnsKept find Makes Stays full k l goes a
     kept_full x at is stays same answer = subst (λ (o : Option X). TurnsAt o full k l goes a) (sym at) (inl (is, stays, same, answer))
 
     -- it goes

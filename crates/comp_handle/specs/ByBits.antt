@@ -10,6 +10,7 @@ use Rattle.stopped_heap.specs.Surveys.{marks_of}
 use Rattle.stopped_heap.specs.declared.fault.BitsFault.{BitsFault}
 use Rattle.stopped_heap.specs.declared.fault.BitsFault.TheVariants as given
 use Rattle.comp_handle.specs.Answers.{bare, done}
+use Rattle.comp_handle.specs.Statuses.{bad_edition, bad_root, not_a_run, object_past_end, out_of_memory, too_large, wrong_length}
 use Rattle.comp_handle.specs.HandleKinds.{survey_in, Fills}
 use Rattle.comp_handle.specs.Making.{ByEdition}
 use Rattle.comp_handle.specs.declared.answer.Answer.{Answer}
@@ -17,13 +18,13 @@ use Rattle.comp_handle.specs.declared.kept.Kept.{Kept}
 
 -- bits of a heap of edition n were not taken
 abbrev pub of_bits : ℕ → BitsFault → Answer
-of_bits n given.TooLarge = bare 33 0
-of_bits n given.ShortObjects = bare 19 n
-of_bits n given.WrongLength = bare 31 0
-of_bits n (given.BadRoot k) = bare 38 k
-of_bits n (given.NotARun i) = bare 192 i
-of_bits n (given.PastEnd i) = bare 34 i
-of_bits n given.OutOfMemory = bare 9 0
+of_bits n given.TooLarge = bare too_large 0
+of_bits n given.ShortObjects = bare bad_edition n
+of_bits n given.WrongLength = bare wrong_length 0
+of_bits n (given.BadRoot k) = bare bad_root k
+of_bits n (given.NotARun i) = bare not_a_run i
+of_bits n (given.PastEnd i) = bare object_past_end i
+of_bits n given.OutOfMemory = bare out_of_memory 0
 
 -- This was found: the marked objects, and the live words, at the bits that are set; it is found of some heap, and the
 -- roots lead to its marked objects. Whether it is so of the words of now, a slide of all parts shows.

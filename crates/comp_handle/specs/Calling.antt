@@ -20,6 +20,7 @@ use Rattle.comp_crew.specs.Touched.TheVariants.{Built, AlreadyBuilt}
 use Rattle.comp_crew.specs.Refusal.{Refusal}
 use Rattle.comp_crew.specs.Refusal.TheVariants.{Busy, OutOfMemory}
 use Rattle.comp_handle.specs.Answers.{bare, done, of_refusal, IsAnswer, IsPlace}
+use Rattle.comp_handle.specs.Statuses.{no_such_build, no_such_page, no_such_root}
 use Rattle.comp_handle.specs.HandleKinds.{mutator_in, Asks}
 use Rattle.comp_handle.specs.declared.answer.Answer.{Answer}
 use Rattle.comp_handle.specs.declared.calling.Call.{Call}
@@ -89,14 +90,14 @@ IsTouchAnswer (Err refusal) a = a ≡ of_refusal 0 refusal
 -- a touch: there is no such page, and nothing has changed, or the page was touched
 abbrev pub Touches : ℕ → Member → Member → Answer → Type 0
 Touches p m n a =
-    ((pages (setup_of m) ≤ p) × (n ≡ m) × (a ≡ bare 12 p))
+    ((pages (setup_of m) ≤ p) × (n ≡ m) × (a ≡ bare no_such_page p))
     ⊎ ((p < pages (setup_of m)) × ((r : Result Touched Refusal) × IsTouchAnswer r a × TouchesPage p m n r))
 
 -- the forwarded root with this number, or there is none
 abbrev pub IsRoot : ℕ → Member → Answer → Type 0
 IsRoot i m a =
     (roots : List ℕ) × AreForwarded (setup_of m).heap roots
-    × (((i < length roots) × (a ≡ done (slice_index roots i))) ⊎ ((length roots ≤ i) × (a ≡ bare 13 i)))
+    × (((i < length roots) × (a ≡ done (slice_index roots i))) ⊎ ((length roots ≤ i) × (a ≡ bare no_such_root i)))
 
 -- the call answered as a call that did this; n is the field that was asked for, or the size of the object, or 0
 abbrev pub Answers : ℕ → (Result ℕ Refusal → Type 0) → Answer → Type 0
@@ -114,7 +115,7 @@ Does (WriteData object field value) m n a = Answers field (WritesField kinds.Dat
 Does (Alloc word) m n a = Answers (size_of (header_by m word)) (Makes (header_by m word) m n) a
 Does (Touch p) m n a = Touches p m n a
 Does (Root i) m n a = (n ≡ m) × IsRoot i m a
-Does (Build i) m n a = (n ≡ m) × IsPlace 23 i (builds_of (pass_of m)) a
+Does (Build i) m n a = (n ≡ m) × IsPlace no_such_build i (builds_of (pass_of m)) a
 
 -- what a call by a handle does: it has a mutator, or nothing happens
 abbrev pub Calls : (Member → Member → Answer → Type 0) → Option Kept → Option Kept → Answer → Type 0

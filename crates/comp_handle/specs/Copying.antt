@@ -7,6 +7,7 @@ use Rattle.comp_crew.specs.Members.{setup_of}
 use Rattle.comp_crew.specs.declared.finishing.Ended.{Ended as End}
 use Rattle.comp_crew.specs.declared.member.Member.{Member}
 use Rattle.comp_handle.specs.Answers.{bare, done}
+use Rattle.comp_handle.specs.Statuses.{out_of_memory, too_short}
 use Rattle.comp_handle.specs.declared.answer.Answer.{Answer}
 
 -- the whole list stands at the front of the buffer, and the answer has its length; or the buffer is shorter and stays
@@ -14,7 +15,7 @@ use Rattle.comp_handle.specs.declared.answer.Answer.{Answer}
 abbrev pub CopiesAll : List ℕ → List ℕ → List ℕ → Answer → Type 0
 CopiesAll list before after a =
     ((length list ≤ length before) × (after ≡ list ++ drop (length list) before) × (a ≡ done (length list)))
-    ⊎ ((length before < length list) × (after ≡ before) × (a ≡ bare 22 (length list)))
+    ⊎ ((length before < length list) × (after ≡ before) × (a ≡ bare too_short (length list)))
 
 -- the forwarded roots of a mutator's heap
 abbrev pub CopiesRoots : List ℕ → List ℕ → Member → Answer → Type 0
@@ -26,4 +27,4 @@ CopiesEndRoots before after e a = CopiesAll (roots_of (finished_of e)) before af
 
 -- the same; or there is no memory for the list, for which the buffer is long enough, and the buffer stays as it was
 abbrev pub WritesBytes : List ℕ → List ℕ → List ℕ → Answer → Type 0
-WritesBytes list before after a = CopiesAll list before after a ⊎ ((length list ≤ length before) × (after ≡ before) × (a ≡ bare 9 0))
+WritesBytes list before after a = CopiesAll list before after a ⊎ ((length list ≤ length before) × (after ≡ before) × (a ≡ bare out_of_memory 0))

@@ -8,6 +8,7 @@ use Rattle.comp_crew.specs.Members.{number_of_member}
 use Rattle.comp_crew.specs.declared.bench.Bench.{Bench}
 use Rattle.comp_crew.specs.declared.member.Member.{Member}
 use Rattle.comp_handle.specs.Answers.{bare, done}
+use Rattle.comp_handle.specs.Statuses.{bad_mutators, no_mutator_left, not_empty, out_of_memory, too_many_pages, wrong_handle}
 use Rattle.comp_handle.specs.HandleKinds.{crew_in, plan_in, Asks, Fills}
 use Rattle.comp_handle.specs.declared.answer.Answer.{Answer}
 use Rattle.comp_handle.specs.declared.kept.Kept.{Kept}
@@ -26,8 +27,8 @@ most_fresh heap = min (most_fresh_pages heap.edition) (most_pages heap.edition -
 -- are not, memory ran out
 abbrev pub IsUnflipped : Heap → ℕ → ℕ → Answer → Type 0
 IsUnflipped heap n fresh a =
-    ((IsCount n → ⊥) × (a ≡ bare 14 n))
-    ⊎ (IsCount n × (((most_fresh heap < fresh) × (a ≡ bare 15 (most_fresh heap))) ⊎ ((fresh ≤ most_fresh heap) × (a ≡ bare 9 0))))
+    ((IsCount n → ⊥) × (a ≡ bare bad_mutators n))
+    ⊎ (IsCount n × (((most_fresh heap < fresh) × (a ≡ bare too_many_pages (most_fresh heap))) ⊎ ((fresh ≤ most_fresh heap) × (a ≡ bare out_of_memory 0))))
 
 -- a crew was made, and the counts are good; or the handle stays empty, and the answer says why
 abbrev pub FlipsOf : Heap → ℕ → ℕ → ℕ → Option Kept → Answer → Type 0
@@ -43,7 +44,7 @@ Flips name n fresh plan old new a =
 -- why no share of a plan is had for a crew of these counts, given whether the handle of the crew is full
 abbrev pub IsUnshared : Bool → ℕ → ℕ → Option Kept → Answer → Type 0
 IsUnshared full n fresh plan a =
-    Asks 0 plan_in (λ heap b. (IsTrue full × (b ≡ bare 11 1)) ⊎ (IsFalse full × IsUnflipped heap n fresh b)) (Unit {0}) plan a
+    Asks 0 plan_in (λ heap b. (IsTrue full × (b ≡ bare not_empty 1)) ⊎ (IsFalse full × IsUnflipped heap n fresh b)) (Unit {0}) plan a
 
 -- the mutator that was handed back last leaves the crew
 abbrev pub Leaves : Bench → Option Kept → Option Kept → Answer → Type 0
@@ -52,7 +53,7 @@ Leaves bench left now a =
 
 -- why none leaves: there is none; or memory ran out, and there is one
 abbrev pub IsUntaken : Bench → Answer → Type 0
-IsUntaken bench a = ((hands_on bench ≡ []) × (a ≡ bare 18 0)) ⊎ ((hands_on bench ≢ []) × (a ≡ bare 9 0))
+IsUntaken bench a = ((hands_on bench ≡ []) × (a ≡ bare no_mutator_left 0)) ⊎ ((hands_on bench ≢ []) × (a ≡ bare out_of_memory 0))
 
 -- the same of a crew that is kept
 abbrev pub Splits : Kept → Kept → Member → Type 0
@@ -61,7 +62,7 @@ Splits k l m = (before : Bench) × (after : Bench) × (k ≡ kept.Crew before) �
 -- why none leaves what is kept, given whether the handle for it is full
 abbrev pub IsUnsplit : Bool → Kept → Answer → Type 0
 IsUnsplit full k a =
-    MatchOption (crew_in (Some k)) (a ≡ bare 255 0) (λ bench. (IsTrue full × (a ≡ bare 11 1)) ⊎ (IsFalse full × IsUntaken bench a))
+    MatchOption (crew_in (Some k)) (a ≡ bare wrong_handle 0) (λ bench. (IsTrue full × (a ≡ bare not_empty 1)) ⊎ (IsFalse full × IsUntaken bench a))
 
 -- a mutator went from its crew to a handle of its own; or neither handle has changed, and the answer says why
 abbrev pub Takes : Option Kept → Option Kept → Option Kept → Option Kept → Answer → Type 0

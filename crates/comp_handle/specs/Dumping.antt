@@ -8,6 +8,7 @@ use Rattle.comp_dump.specs.DumpEncoding.{dump_bytes}
 use Rattle.comp_dump.specs.Lent.{record_of}
 use Rattle.comp_audit.specs.Judged.{faults}
 use Rattle.comp_handle.specs.Answers.{bare}
+use Rattle.comp_handle.specs.Statuses.{out_of_memory}
 use Rattle.comp_handle.specs.Copying.{WritesBytes}
 use Rattle.comp_handle.specs.declared.answer.Answer.{Answer}
 
@@ -30,7 +31,7 @@ pub record IsLawful (e : End) : Type 0 where
 
 -- that dump, which is lawful, stands at the front of the buffer; or the buffer stays as it was, and the answer says why
 abbrev pub WritesDump : List ℕ → List ℕ → End → Answer → Type 0
-WritesDump before after e a = (IsLawful e × WritesBytes (dump_bytes (dump_of e)) before after a) ⊎ ((after ≡ before) × (a ≡ bare 9 0))
+WritesDump before after e a = (IsLawful e × WritesBytes (dump_bytes (dump_of e)) before after a) ⊎ ((after ≡ before) × (a ≡ bare out_of_memory 0))
 
 -- a page of a dump has as many words and entries as a page may have
 abbrev pub IsSized : Option BuiltPage → Type 0

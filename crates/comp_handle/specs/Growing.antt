@@ -12,6 +12,7 @@ use Rattle.stopped_heap.specs.declared.fault.LentFault.{LentFault}
 use Rattle.stopped_heap.specs.declared.fault.SurveyFault.{SurveyFault}
 use Rattle.stopped_heap.specs.declared.fault.SurveyFault.TheVariants as survey
 use Rattle.comp_handle.specs.Answers.{bare, done, of_lent, of_survey}
+use Rattle.comp_handle.specs.Statuses.{out_of_memory, wrong_length}
 use Rattle.comp_handle.specs.HandleKinds.{growing_in, survey_in, tables_in, Asks, Fills}
 use Rattle.comp_handle.specs.Lending.{room_for}
 use Rattle.comp_handle.specs.Making.{ByEdition}
@@ -62,7 +63,7 @@ IsUnbegun n words tables a = OfEdition n (λ edition. IsUnbegunIn edition words 
 abbrev pub GrowsIn : (Found → Type 0) → (SurveyFault → Type 0) → ℕ → Found → Option Kept → Answer → Type 0
 GrowsIn Has Why many found now a =
     ((many ≡ found.count) × ((after : Found) × (growing_in now ≡ Some after) × Has after × (a ≡ done (length after.marks))))
-    ⊎ ((many ≢ found.count) × (growing_in now ≡ Some found) × (a ≡ bare 31 0))
+    ⊎ ((many ≢ found.count) × (growing_in now ≡ Some found) × (a ≡ bare wrong_length 0))
     ⊎ ((many ≡ found.count) × (tables_in now ≡ Some (room_for found.room))
     × ((fault : SurveyFault) × (a ≡ of_survey fault) × Why fault × (fault ≡ survey.OutOfMemory → found.room < found.count)))
 
@@ -94,7 +95,7 @@ EndsGrowing found now a = (survey_in now ≡ Some found) × ((heap : Heap) × Is
 abbrev pub SettlesGrowing : Option Kept → Option Kept → Option Kept → Option Kept → Answer → Type 0
 SettlesGrowing from left to new a =
     Asks 0 growing_in (λ found b.
-    Fills 1 (λ now c. ((left ≡ None) × EndsGrowing found now c) ⊎ ((tables_in left ≡ Some (room_for found.room)) × (now ≡ None) × (c ≡ bare 9 0)))
+    Fills 1 (λ now c. ((left ≡ None) × EndsGrowing found now c) ⊎ ((tables_in left ≡ Some (room_for found.room)) × (now ≡ None) × (c ≡ bare out_of_memory 0)))
     (left ≡ from) to new b)
     ((left ≡ from) × (new ≡ to)) from a
 

@@ -11,6 +11,7 @@ use Rattle.stopped_heap.specs.Places.{Found}
 use Rattle.stopped_heap.specs.Tables.{Reserved}
 use Rattle.young_heap.specs.Tables.{Watermarked}
 use Rattle.comp_handle.specs.Answers.{bare}
+use Rattle.comp_handle.specs.Statuses.{empty_handle, not_empty, wrong_handle}
 use Rattle.comp_handle.specs.Knowing.{knowing, Knowing}
 use Rattle.comp_handle.specs.Paged.{paged, Paged}
 use Rattle.comp_handle.specs.declared.answer.Answer.{Answer}
@@ -305,8 +306,8 @@ lane_in (Some (kept.Lane lane)) = Some lane
 -- The answer of a call to which the handle with this number, among those of the call, does not keep what is asked for:
 -- it is empty, or keeps something of another kind.
 abbrev pub not_there : ℕ → Option Kept → Answer
-not_there which None = bare 10 which
-not_there which (Some k) = bare 255 which
+not_there which None = bare empty_handle which
+not_there which (Some k) = bare wrong_handle which
 
 -- P of what the handle keeps of the kind that is asked for; or it keeps no such thing, and R
 abbrev pub Asks : {X : Type 0} → ℕ → (Option Kept → Option X) → (X → Answer → Type 0) → Type 0 → Option Kept → Answer → Type 0
@@ -315,7 +316,7 @@ Asks which find P R h a = MatchOption (find h) ((a ≡ not_there which h) × R) 
 -- A handle is to be filled: it was empty, and P of what it keeps then; or it keeps something already, and stays, and R.
 abbrev pub Fills : ℕ → (Option Kept → Answer → Type 0) → Type 0 → Option Kept → Option Kept → Answer → Type 0
 Fills which P R None new a = P new a
-Fills which P R (Some k) new a = (new ≡ Some k) × (a ≡ bare 11 which) × R
+Fills which P R (Some k) new a = (new ≡ Some k) × (a ≡ bare not_empty which) × R
 
 -- What the first handle keeps goes, and the second one keeps what is made of it; or both stay, and the answer says why.
 abbrev pub Turns : {X : Type 0} → (Option Kept → Option X) → (X → Option Kept → Answer → Type 0) → (X → Answer → Type 0) → Option Kept → Option Kept → Option Kept → Option Kept → Answer → Type 0
@@ -325,8 +326,8 @@ Turns find Makes Stays from left to new a =
 -- the same of what is kept, given whether the second handle is full: it goes there, changed, or stays
 abbrev pub TurnsKept : {X : Type 0} → (Option Kept → Option X) → (X → Option Kept → Answer → Type 0) → (X → Answer → Type 0) → Bool → Kept → Kept → Bool → Answer → Type 0
 TurnsKept find Makes Stays full k l goes a =
-    MatchOption (find (Some k)) (IsFalse goes × (l ≡ k) × (a ≡ bare 255 0))
-    (λ x. (IsTrue full × IsFalse goes × (l ≡ k) × (a ≡ bare 11 1)) ⊎ (IsFalse full × ((IsTrue goes × Makes x (Some l) a) ⊎ (IsFalse goes × (l ≡ k) × Stays x a))))
+    MatchOption (find (Some k)) (IsFalse goes × (l ≡ k) × (a ≡ bare wrong_handle 0))
+    (λ x. (IsTrue full × IsFalse goes × (l ≡ k) × (a ≡ bare not_empty 1)) ⊎ (IsFalse full × ((IsTrue goes × Makes x (Some l) a) ⊎ (IsFalse goes × (l ≡ k) × Stays x a))))
 
 -- what is kept after a turn lies in the second handle if it goes, else again in the first one
 abbrev pub Settles : Bool → Kept → Option Kept → Option Kept → Option Kept → Type 0

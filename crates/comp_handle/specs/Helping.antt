@@ -3,6 +3,7 @@ use Rattle.std.specs.Prelude.{◌≡◌, ℕ, ◌⊎◌, Bool, IsFalse, IsTrue, 
 use Rattle.mark_job.specs.Asked.{Asked, IsBeginFault, IsSmall}
 use Rattle.stopped_heap.specs.declared.fault.SurveyFault.{SurveyFault}
 use Rattle.comp_handle.specs.Answers.{bare, done, of_survey}
+use Rattle.comp_handle.specs.Statuses.{not_empty, still_shared, wrong_handle}
 use Rattle.comp_handle.specs.HandleKinds.{job_in, Fills}
 use Rattle.comp_handle.specs.Making.{ByEdition}
 use Rattle.comp_handle.specs.Resting.{asked}
@@ -29,4 +30,4 @@ Helps heap a = (a ≡ done 0) ⊎ (a ≡ done 1) ⊎ (a ≡ done 2)
 -- why a job is not finished, given whether the handle of the survey is full: another handle keeps a share of it
 abbrev pub IsUnended : Bool → Kept → Answer → Type 0
 IsUnended full k a =
-    MatchOption (job_in (Some k)) (a ≡ bare 255 0) (λ heap. (IsTrue full × (a ≡ bare 11 1)) ⊎ (IsFalse full × (a ≡ bare 28 0)))
+    MatchOption (job_in (Some k)) (a ≡ bare wrong_handle 0) (λ heap. (IsTrue full × (a ≡ bare not_empty 1)) ⊎ (IsFalse full × (a ≡ bare still_shared 0)))

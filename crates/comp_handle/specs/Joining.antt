@@ -7,6 +7,7 @@ use Rattle.comp_crew.specs.Passes.{seen}
 use Rattle.comp_crew.specs.declared.bench.Bench.{Bench}
 use Rattle.comp_crew.specs.declared.member.Member.{Member}
 use Rattle.comp_handle.specs.Answers.{bare, done}
+use Rattle.comp_handle.specs.Statuses as statuses
 use Rattle.comp_handle.specs.HandleKinds.{crew_in, mutator_in, Asks}
 use Rattle.comp_handle.specs.declared.answer.Answer.{Answer}
 use Rattle.comp_handle.specs.declared.kept.Kept.{Kept}
@@ -16,7 +17,7 @@ use Rattle.comp_handle.specs.declared.kept.Kept.TheVariants as kept
 abbrev pub Joins : Bench → Member → Option Kept → Option Kept → Option Kept → Option Kept → Answer → Type 0
 Joins bench m crew left own rest a =
     ((after : Bench) × (left ≡ Some (kept.Crew after)) × (rest ≡ None) × IsGiven bench m after × (a ≡ done 0))
-    ⊎ ((left ≡ crew) × (rest ≡ own) × IsStranger bench m × (a ≡ bare 17 0))
+    ⊎ ((left ≡ crew) × (rest ≡ own) × IsStranger bench m × (a ≡ bare statuses.other_crew 0))
 
 -- the same for what the handles keep
 abbrev pub Gives : Option Kept → Option Kept → Option Kept → Option Kept → Answer → Type 0
@@ -40,7 +41,7 @@ pub record AreMet (m o n p : Member) : Type 0 where
 abbrev pub Meets : Member → Member → Option Kept → Option Kept → Option Kept → Option Kept → Answer → Type 0
 Meets m o first left other rest a =
     ((n : Member) × (p : Member) × (left ≡ Some (kept.Mutator n)) × (rest ≡ Some (kept.Mutator p)) × AreMet m o n p × (a ≡ done 0))
-    ⊎ ((left ≡ first) × (rest ≡ other) × (name_of m ≢ name_of o) × (a ≡ bare 17 0))
+    ⊎ ((left ≡ first) × (rest ≡ other) × (name_of m ≢ name_of o) × (a ≡ bare statuses.other_crew 0))
 
 -- the same for what the handles keep
 abbrev pub Brings : Option Kept → Option Kept → Option Kept → Option Kept → Answer → Type 0

@@ -12,28 +12,29 @@ use Rattle.comp_dump.specs.declared.fault.DumpFault.{DumpFault}
 use Rattle.comp_dump.specs.declared.fault.DumpFault.TheVariants as dump
 use Rattle.comp_audit.specs.Judged.{faults, whole_faults}
 use Rattle.comp_handle.specs.Answers.{bare, done, two}
+use Rattle.comp_handle.specs.Statuses.{bad_entry, bad_options, build_unclaimed, file_bad_field, file_bad_magic, file_trailing, file_truncated, loose_reference, out_of_memory, page_missing, stamp_missing, stamp_repeated, wrong_head, wrong_total, wrong_word}
 use Rattle.comp_handle.specs.declared.answer.Answer.{Answer}
 
 -- a fault of the audit; of a bad entry the page, and the number of the entry, of which a page has at most 1,024
 abbrev pub of_audit : AuditFault → Answer
-of_audit (audit.WrongWord a) = bare 65 a
-of_audit (audit.LooseReference a) = bare 66 a
-of_audit (audit.BadEntry p i) = two 67 p (min i 4294967295)
-of_audit (audit.StampRepeated stamp) = bare 68 stamp
-of_audit (audit.StampMissing stamp) = bare 69 stamp
-of_audit audit.WrongTotal = bare 70 0
-of_audit (audit.BuildUnclaimed p) = bare 71 p
-of_audit audit.WrongHead = bare 72 0
-of_audit (audit.PageMissing p) = bare 73 p
+of_audit (audit.WrongWord a) = bare wrong_word a
+of_audit (audit.LooseReference a) = bare loose_reference a
+of_audit (audit.BadEntry p i) = two bad_entry p (min i 4294967295)
+of_audit (audit.StampRepeated stamp) = bare stamp_repeated stamp
+of_audit (audit.StampMissing stamp) = bare stamp_missing stamp
+of_audit audit.WrongTotal = bare wrong_total 0
+of_audit (audit.BuildUnclaimed p) = bare build_unclaimed p
+of_audit audit.WrongHead = bare wrong_head 0
+of_audit (audit.PageMissing p) = bare page_missing p
 
 -- no dump was read; bytes in memory have no device that could fail, and no status says that one did
 abbrev pub of_dump : DumpFault → Answer
-of_dump dump.Truncated = bare 97 0
-of_dump dump.TrailingBytes = bare 98 0
-of_dump dump.BadMagic = bare 99 0
-of_dump dump.BadField = bare 100 0
-of_dump dump.OutOfMemory = bare 9 0
-of_dump dump.Device = bare 9 0
+of_dump dump.Truncated = bare file_truncated 0
+of_dump dump.TrailingBytes = bare file_trailing 0
+of_dump dump.BadMagic = bare file_bad_magic 0
+of_dump dump.BadField = bare file_bad_field 0
+of_dump dump.OutOfMemory = bare out_of_memory 0
+of_dump dump.Device = bare out_of_memory 0
 
 -- there is no fault, and the answer has the live words; or it has the first fault
 abbrev pub Judges : List AuditFault → ℕ → Answer → Type 0
@@ -71,5 +72,5 @@ JudgesBytes whole words bytes heap a =
 -- the same by options, or these have no meaning
 abbrev pub JudgesBy : ℕ → List ℕ → Heap → Answer → Type 0
 JudgesBy options bytes heap a =
-    ((3 < options) × (a ≡ bare 32 options))
+    ((3 < options) × (a ≡ bare bad_options options))
     ⊎ ((options ≤ 3) × JudgesBytes (asks_whole options) (asks_words options) bytes heap a)

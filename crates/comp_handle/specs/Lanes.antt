@@ -17,6 +17,7 @@ use Rattle.stopped_heap.specs.declared.fault.MeetFault.{MeetFault}
 use Rattle.stopped_heap.specs.declared.fault.Missing.{Missing}
 use Rattle.stopped_heap.specs.declared.fault.SurveyFault.{SurveyFault}
 use Rattle.comp_handle.specs.Answers.{bare, done, of_survey}
+use Rattle.comp_handle.specs.Statuses.{bad_edition, bad_weak, changed, missing_object, not_a_run, other_heap, out_of_memory, overlap, unmarked, wrong_length}
 use Rattle.comp_handle.specs.HandleKinds.{lane_in, looks_in, Asks, Fills}
 use Rattle.comp_handle.specs.Looking.{of_look, of_meet}
 use Rattle.comp_handle.specs.Looks.{SaysWaiting}
@@ -26,18 +27,18 @@ use Rattle.comp_handle.specs.declared.kept.Kept.{Kept}
 
 -- two lanes were not joined
 abbrev pub of_join : JoinFault → Answer
-of_join join.OtherHeap = bare 213 0
-of_join (join.Overlap i) = bare 135 i
-of_join join.OutOfMemory = bare 9 0
+of_join join.OtherHeap = bare other_heap 0
+of_join (join.Overlap i) = bare overlap i
+of_join join.OutOfMemory = bare out_of_memory 0
 
 -- the objects at which a marking looked are not as they must be
 abbrev pub of_check : CheckFault → Answer
-of_check check.WrongLength = bare 31 0
-of_check (check.Changed i) = bare 26 i
-of_check (check.Unmarked i) = bare 27 i
-of_check (check.BadWeak i) = bare 45 i
-of_check (check.Unowned i) = bare 192 i
-of_check check.OutOfMemory = bare 9 0
+of_check check.WrongLength = bare wrong_length 0
+of_check (check.Changed i) = bare changed i
+of_check (check.Unmarked i) = bare unmarked i
+of_check (check.BadWeak i) = bare bad_weak i
+of_check (check.Unowned i) = bare not_a_run i
+of_check check.OutOfMemory = bare out_of_memory 0
 
 -- A lane that met nothing, of a heap of this edition and so many words. So it is right of any words.
 pub record IsEmptyLane (edition : Edition) (count : ℕ) (lane : Laned) : Type 0 where
@@ -62,7 +63,7 @@ BeginsLaneIn edition count now a =
 abbrev pub BeginsLaneOf : ℕ → ℕ → Option Kept → Answer → Edition → Type 0
 BeginsLaneOf n count now a edition =
     ((most_words edition ≤ most_object_words edition) × BeginsLaneIn edition count now a)
-    ⊎ ((most_object_words edition < most_words edition) × (now ≡ None) × (a ≡ bare 19 n))
+    ⊎ ((most_object_words edition < most_words edition) × (now ≡ None) × (a ≡ bare bad_edition n))
 
 -- the first lane of a marking of a heap of edition n and so many words
 abbrev pub BeginsLane : ℕ → ℕ → Option Kept → Option Kept → Answer → Type 0
@@ -71,7 +72,7 @@ BeginsLane n count old new a = Fills 0 (λ now b. ByEdition n (BeginsLaneOf n co
 -- the second handle, which was empty, keeps a lane of the same marking that met nothing, or there is no memory
 abbrev pub SharesLane : Option Kept → Option Kept → Option Kept → Answer → Type 0
 SharesLane from to new a =
-    Asks 0 lane_in (λ lane b. Fills 1 (λ now c. (KeepsEmptyLane lane.own.edition lane.own.count now × (c ≡ done 0)) ⊎ ((now ≡ None) × (c ≡ bare 9 0)))
+    Asks 0 lane_in (λ lane b. Fills 1 (λ now c. (KeepsEmptyLane lane.own.edition lane.own.count now × (c ≡ done 0)) ⊎ ((now ≡ None) × (c ≡ bare out_of_memory 0)))
     (Unit {0}) to new b) (new ≡ to) from a
 
 -- what stays of a lane in each step: the edition, the number of words, what was met, in its order, and what was known
@@ -184,7 +185,7 @@ JoinsLanes from left to new a =
 abbrev pub MakesWhole : Laned → Option Kept → Answer → Type 0
 MakesWhole lane now a =
     ((looks_in now ≡ Some lane.own) × ((words : List ℕ) → AreLanedIn lane words → AreLooked lane.own words) × SaysWaiting lane.own a)
-    ⊎ ((now ≡ None) × ((missing : Missing) × (a ≡ bare 212 missing.0) × IsMissingOf lane missing))
+    ⊎ ((now ≡ None) × ((missing : Missing) × (a ≡ bare missing_object missing.0) × IsMissingOf lane missing))
 
 -- the same for what the handles keep; the lane goes
 abbrev pub WholesLane : Option Kept → Option Kept → Option Kept → Option Kept → Answer → Type 0

@@ -11,6 +11,7 @@ use Rattle.stopped_heap.specs.declared.fault.CollectLentFault.{CollectLentFault}
 use Rattle.stopped_heap.specs.declared.fault.LentFault.{LentFault}
 use Rattle.stopped_heap.specs.declared.fault.SurveyFault.TheVariants as survey
 use Rattle.comp_handle.specs.Answers.{bare, done, of_collect_lent, of_lent, of_survey}
+use Rattle.comp_handle.specs.Statuses.{out_of_memory, still_shared}
 use Rattle.comp_handle.specs.HandleKinds.{survey_in, tables_in}
 use Rattle.comp_handle.specs.Resting.{asked, OfEdition}
 use Rattle.comp_handle.specs.declared.answer.Answer.{Answer}
@@ -22,7 +23,7 @@ room_for words = record { room = words }
 
 -- the handle keeps tables with room for a survey of so many words, or there is no memory
 abbrev pub Reserves : ℕ → Option Kept → Answer → Type 0
-Reserves words now a = ((tables_in now ≡ Some (room_for words)) × (a ≡ done 0)) ⊎ ((now ≡ None) × (a ≡ bare 9 0))
+Reserves words now a = ((tables_in now ≡ Some (room_for words)) × (a ≡ done 0)) ⊎ ((now ≡ None) × (a ≡ bare out_of_memory 0))
 
 -- The heap was collected into a memory, and the answer has its live words; or roots and memory are as they were, and
 -- the answer says why, which is never for want of memory.
@@ -80,4 +81,4 @@ Returns found now a = (tables_in now ≡ Some (room_for found.room)) × (a ≡ d
 
 -- it does not: another handle keeps a share of it
 abbrev pub IsStillShared : {X : Type 0} → X → Answer → Type 0
-IsStillShared x a = a ≡ bare 28 0
+IsStillShared x a = a ≡ bare still_shared 0

@@ -2,6 +2,7 @@ pub mod Paged
 pub mod Knowing
 pub mod Keeping
 pub mod Held
+pub mod Statuses
 pub mod Answers
 pub mod HandleKinds
 pub mod Calling
@@ -31,6 +32,7 @@ pub mod Moves
 pub mod Guarding
 pub mod Growing
 pub mod Young
+pub mod Raising
 pub mod Pinning
 pub mod Paging
 pub mod Touching

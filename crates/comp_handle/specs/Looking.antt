@@ -9,6 +9,7 @@ use Rattle.stopped_heap.specs.declared.fault.LookFault.TheVariants as look
 use Rattle.stopped_heap.specs.declared.fault.MeetFault.{MeetFault}
 use Rattle.stopped_heap.specs.declared.fault.MeetFault.TheVariants as meet
 use Rattle.comp_handle.specs.Answers.{bare}
+use Rattle.comp_handle.specs.Statuses.{bad_reference, bad_root, bad_weak, no_such_object, object_past_end, object_too_long, out_of_memory, overlap, too_short}
 use Rattle.comp_handle.specs.HandleKinds.{looks_in, Asks}
 use Rattle.comp_handle.specs.Looks.{SaysWaiting}
 use Rattle.comp_handle.specs.declared.answer.Answer.{Answer}
@@ -16,19 +17,19 @@ use Rattle.comp_handle.specs.declared.kept.Kept.{Kept}
 
 -- an object was not looked at
 abbrev pub of_look : LookFault → Answer
-of_look look.NoSuchObject = bare 210 0
-of_look (look.ShortRun n) = bare 22 n
-of_look (look.ObjectTooLong i) = bare 35 i
-of_look (look.ObjectPastEnd i) = bare 34 i
-of_look (look.Overlap i) = bare 135 i
-of_look (look.BadReference i) = bare 131 i
-of_look (look.BadWeak i) = bare 45 i
-of_look look.OutOfMemory = bare 9 0
+of_look look.NoSuchObject = bare no_such_object 0
+of_look (look.ShortRun n) = bare too_short n
+of_look (look.ObjectTooLong i) = bare object_too_long i
+of_look (look.ObjectPastEnd i) = bare object_past_end i
+of_look (look.Overlap i) = bare overlap i
+of_look (look.BadReference i) = bare bad_reference i
+of_look (look.BadWeak i) = bare bad_weak i
+of_look look.OutOfMemory = bare out_of_memory 0
 
 -- values were not met
 abbrev pub of_meet : MeetFault → Answer
-of_meet (meet.BadValue k) = bare 38 k
-of_meet meet.OutOfMemory = bare 9 0
+of_meet (meet.BadValue k) = bare bad_root k
+of_meet meet.OutOfMemory = bare out_of_memory 0
 
 -- what stays of a marking in each step: the edition, the number of words, and what was met, in its order
 pub record GoesOn (before after : Looking) : Type 0 where
@@ -83,7 +84,7 @@ LooksAtRows rows from left a =
 -- The object at index i is looked at again; or the answer says why not. If no object was met there, the marking stays.
 abbrev pub LooksAgain : ℕ → List ℕ → Option Kept → Option Kept → Answer → Type 0
 LooksAgain i row from left a =
-    Asks 0 looks_in (λ looks b. ((bit looks.heads i ≡ false) × (left ≡ from) × (b ≡ bare 210 i))
+    Asks 0 looks_in (λ looks b. ((bit looks.heads i ≡ false) × (left ≡ from) × (b ≡ bare no_such_object i))
     ⊎ ((bit looks.heads i ≡ true) × StepsOn (λ before after c. HasLookedAgain i row before after × SaysWaiting after c)
     (λ before c. (fault : LookFault) × (c ≡ of_look fault) × IsLookAgainFault before i row fault) left looks b))
     (left ≡ from) from a

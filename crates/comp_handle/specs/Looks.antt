@@ -10,6 +10,7 @@ use Rattle.stopped_heap.specs.Reached.{IsFaultOf}
 use Rattle.stopped_heap.specs.declared.fault.BitsFault.{BitsFault}
 use Rattle.stopped_heap.specs.declared.fault.SurveyFault.{SurveyFault}
 use Rattle.comp_handle.specs.Answers.{bare, done, of_survey}
+use Rattle.comp_handle.specs.Statuses.{bad_edition, out_of_memory, still_waiting}
 use Rattle.comp_handle.specs.ByBits.{of_bits}
 use Rattle.comp_handle.specs.HandleKinds.{looks_in, survey_in, Asks, Fills}
 use Rattle.comp_handle.specs.Making.{ByEdition}
@@ -43,7 +44,7 @@ BeginsIn edition count roots now a =
 abbrev pub BeginsOf : ℕ → ℕ → List ℕ → Option Kept → Answer → Edition → Type 0
 BeginsOf n count roots now a edition =
     ((most_words edition ≤ most_object_words edition) × BeginsIn edition count roots now a)
-    ⊎ ((most_object_words edition < most_words edition) × (now ≡ None) × (a ≡ bare 19 n))
+    ⊎ ((most_object_words edition < most_words edition) × (now ≡ None) × (a ≡ bare bad_edition n))
 
 -- a marking of a heap of edition n and so many words
 abbrev pub BeginsLooks : ℕ → ℕ → List ℕ → Option Kept → Option Kept → Answer → Type 0
@@ -76,7 +77,7 @@ abbrev pub IsUnended : Looking → List ℕ → Answer → Type 0
 IsUnended looks roots a =
     ((fault : BitsFault) × (a ≡ of_bits 0 fault)
     × IsBitsFaultOf looks.edition looks.count roots looks.heads looks.bits fault)
-    ⊎ ((a ≡ bare 9 0) × ((found : Found) × IsEnded looks roots found))
+    ⊎ ((a ≡ bare out_of_memory 0) × ((found : Found) × IsEnded looks roots found))
 
 -- the handle keeps what was found, and the answer has the number of live words; or it keeps nothing, and the answer
 -- says why
@@ -91,7 +92,7 @@ abbrev pub EndsOf : List ℕ → Looking → Option Kept → Option Kept → Opt
 EndsOf roots looks from left now a =
     ((length looks.met ≤ looks.looked) × (left ≡ None) × EndsIn roots looks now a)
     ⊎ ((looks.looked < length looks.met) × (left ≡ from) × (now ≡ None)
-    × (a ≡ bare 211 (slice_index looks.met looks.looked)))
+    × (a ≡ bare still_waiting (slice_index looks.met looks.looked)))
 
 -- the same for what the handles keep
 abbrev pub EndsLooks : List ℕ → Option Kept → Option Kept → Option Kept → Option Kept → Answer → Type 0

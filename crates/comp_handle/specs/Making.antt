@@ -8,6 +8,7 @@ use Rattle.heap_layout.specs.declared.fault.LayoutFault.{LayoutFault}
 use Rattle.heap_layout.specs.declared.fault.LayoutFault.TheVariants as layout
 use Rattle.reachability.specs.Reachable.{AreReachable}
 use Rattle.comp_handle.specs.Answers.{bare, done, of_layout}
+use Rattle.comp_handle.specs.Statuses.{bad_edition}
 use Rattle.comp_handle.specs.HandleKinds.{Fills}
 use Rattle.comp_handle.specs.declared.answer.Answer.{Answer}
 use Rattle.comp_handle.specs.declared.kept.Kept.{Kept}
@@ -35,7 +36,7 @@ Accepts heap now a =
 abbrev pub ByEdition : ℕ → (Edition → Type 0) → Option Kept → Answer → Type 0
 ByEdition n Done now a =
     ((edition : Edition) × (version_of edition ≡ n) × Done edition)
-    ⊎ (((edition : Edition) → version_of edition ≢ n) × (now ≡ None) × (a ≡ bare 19 n))
+    ⊎ (((edition : Edition) → version_of edition ≢ n) × (now ≡ None) × (a ≡ bare bad_edition n))
 
 -- a heap of edition n is made, or there is no such edition
 abbrev pub MakesHeap : ℕ → List ℕ → List ℕ → List ℕ → Option Kept → Option Kept → Answer → Type 0

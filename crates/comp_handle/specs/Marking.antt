@@ -14,6 +14,7 @@ use Rattle.mark_job.specs.declared.marking_fault.MarkingFault.TheVariants as beg
 use Rattle.mark_job.specs.declared.marking_fault.MeetFault.{MeetFault}
 use Rattle.mark_job.specs.declared.marking_fault.MeetFault.TheVariants as meet
 use Rattle.comp_handle.specs.Answers.{bare, done}
+use Rattle.comp_handle.specs.Statuses.{bad_edition, bad_object, bad_root, markers_busy, not_empty, out_of_memory, still_marking, still_shared, too_large, wrong_handle, wrong_length}
 use Rattle.comp_handle.specs.ByBits.{of_bits}
 use Rattle.comp_handle.specs.HandleKinds.{marking_in, survey_in, Asks, Fills}
 use Rattle.comp_handle.specs.Knowing.{Knowing}
@@ -23,22 +24,22 @@ use Rattle.comp_handle.specs.declared.kept.Kept.{Kept}
 
 -- no marking of a heap of edition n began
 abbrev pub of_begin : ℕ → MarkingFault → Answer
-of_begin n begin.TooLarge = bare 33 0
-of_begin n begin.ShortObjects = bare 19 n
-of_begin n (begin.BadRoot k) = bare 38 k
-of_begin n begin.OutOfMemory = bare 9 0
+of_begin n begin.TooLarge = bare too_large 0
+of_begin n begin.ShortObjects = bare bad_edition n
+of_begin n (begin.BadRoot k) = bare bad_root k
+of_begin n begin.OutOfMemory = bare out_of_memory 0
 
 -- values were not met by many
 abbrev pub of_meeting : MeetFault → Answer
-of_meeting (meet.BadValue k) = bare 38 k
-of_meeting meet.Busy = bare 200 0
-of_meeting meet.OutOfMemory = bare 9 0
+of_meeting (meet.BadValue k) = bare bad_root k
+of_meeting meet.Busy = bare markers_busy 0
+of_meeting meet.OutOfMemory = bare out_of_memory 0
 
 -- a marking did not end
 abbrev pub of_ending : MarkingEnd → Answer
-of_ending end.Waiting = bare 201 0
-of_ending end.NoMemory = bare 9 0
-of_ending (end.BadObject i) = bare 202 i
+of_ending end.Waiting = bare still_marking 0
+of_ending end.NoMemory = bare out_of_memory 0
+of_ending (end.BadObject i) = bare bad_object i
 of_ending (end.Bits fault) = of_bits 0 fault
 
 -- the handle knows that the objects are met with which the marking began
@@ -71,7 +72,7 @@ KeepsMarking begun now = (m : Knowing) × (marking_in now ≡ Some m) × KnowsBe
 -- the second handle, which was empty, keeps a share of the same marking then, or there is no memory
 abbrev pub SharesMarking : Option Kept → Option Kept → Option Kept → Answer → Type 0
 SharesMarking from to new a =
-    Asks 0 marking_in (λ m b. Fills 1 (λ now c. (KeepsMarking m.begun now × (c ≡ done 0)) ⊎ ((now ≡ None) × (c ≡ bare 9 0))) (Unit {0}) to new b)
+    Asks 0 marking_in (λ m b. Fills 1 (λ now c. (KeepsMarking m.begun now × (c ≡ done 0)) ⊎ ((now ≡ None) × (c ≡ bare out_of_memory 0))) (Unit {0}) to new b)
     (new ≡ to) from a
 
 -- The answer of a helper with so many words: 0 if nothing is left to help with, 1 if it looked at some objects, 2 if
@@ -79,7 +80,7 @@ SharesMarking from to new a =
 abbrev pub HelpsMarking : ℕ → Knowing → Answer → Type 0
 HelpsMarking many m a =
     ((many ≡ m.begun.count) × ((a ≡ done 0) ⊎ (a ≡ done 1) ⊎ (a ≡ done 2)))
-    ⊎ ((many ≢ m.begun.count) × (a ≡ bare 31 0))
+    ⊎ ((many ≢ m.begun.count) × (a ≡ bare wrong_length 0))
 
 -- the same marking goes on, and the handle knows of the objects of which it knew
 pub record KnowsMore (before after : Knowing) : Type 0 where
@@ -105,7 +106,7 @@ MeetsMarking values from left a =
 -- why a marking stays that is to end, given whether the handle of the survey is full: another handle keeps a share of it
 abbrev pub IsUnendedMarking : Bool → Kept → Answer → Type 0
 IsUnendedMarking full k a =
-    MatchOption (marking_in (Some k)) (a ≡ bare 255 0) (λ m. (IsTrue full × (a ≡ bare 11 1)) ⊎ (IsFalse full × (a ≡ bare 28 0)))
+    MatchOption (marking_in (Some k)) (a ≡ bare wrong_handle 0) (λ m. (IsTrue full × (a ≡ bare not_empty 1)) ⊎ (IsFalse full × (a ≡ bare still_shared 0)))
 
 -- This was found by a marking: it is found of some heap, the roots lead to its marked objects, and marked are the
 -- objects with which the marking began, and those of which its last handle knows that they were met.

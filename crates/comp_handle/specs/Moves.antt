@@ -13,6 +13,7 @@ use Rattle.moved_heaps.specs.declared.fault.HeadPart.TheVariants as part
 use Rattle.moved_heaps.specs.declared.fault.MovedFault.{MovedFault}
 use Rattle.moved_heaps.specs.declared.fault.MovedFault.TheVariants as moves
 use Rattle.comp_handle.specs.Answers.{bare, done, two}
+use Rattle.comp_handle.specs.Statuses.{moved_overlap, moved_place_outside, moved_wrong_head, moved_wrong_root, moved_wrong_word, out_of_memory}
 use Rattle.comp_handle.specs.Judging.{of_dump}
 use Rattle.comp_handle.specs.declared.answer.Answer.{Answer}
 
@@ -24,12 +25,12 @@ head_number part.Roots = 2
 
 -- a fault of a moved heap; second numbers are those of an object, or of a word of one
 abbrev pub of_moved : MovedFault → Answer
-of_moved (moves.WrongHead its) = bare 161 (head_number its)
-of_moved (moves.PlaceOutside k) = bare 162 k
-of_moved (moves.Overlap k l) = two 163 k (min l 4294967295)
-of_moved (moves.WrongRoot i) = bare 164 i
-of_moved (moves.WrongWord k i) = two 165 k (min i 4294967295)
-of_moved moves.OutOfMemory = bare 9 0
+of_moved (moves.WrongHead its) = bare moved_wrong_head (head_number its)
+of_moved (moves.PlaceOutside k) = bare moved_place_outside k
+of_moved (moves.Overlap k l) = two moved_overlap k (min l 4294967295)
+of_moved (moves.WrongRoot i) = bare moved_wrong_root i
+of_moved (moves.WrongWord k i) = two moved_wrong_word k (min i 4294967295)
+of_moved moves.OutOfMemory = bare out_of_memory 0
 
 -- a moved heap is lawful, and the answer has the words of the marked objects; or it has the first fault
 abbrev pub Judges : Heap → Moved → Answer → Type 0

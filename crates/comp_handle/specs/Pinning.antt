@@ -7,14 +7,15 @@ use Rattle.pinned_heap.specs.declared.fault.CollectPinnedFault.{CollectPinnedFau
 use Rattle.pinned_heap.specs.declared.fault.CollectPinnedFault.TheVariants as pinned
 use Rattle.pinned_heap.specs.declared.run.Run.{Run}
 use Rattle.comp_handle.specs.Answers.{bare, done, of_survey}
+use Rattle.comp_handle.specs.Statuses.{bad_pin, too_short}
 use Rattle.comp_handle.specs.Resting.{OfEdition}
 use Rattle.comp_handle.specs.declared.answer.Answer.{Answer}
 
 -- a heap was not collected around objects that stay
 abbrev pub of_pinned : CollectPinnedFault → Answer
 of_pinned (pinned.Survey fault) = of_survey fault
-of_pinned (pinned.BadPin k) = bare 226 k
-of_pinned (pinned.TooManyRuns count) = bare 22 count
+of_pinned (pinned.BadPin k) = bare bad_pin k
+of_pinned (pinned.TooManyRuns count) = bare too_short count
 
 -- a run as C sees it: the index of its first word, and the one behind its last word
 abbrev pub run_ends : Run → List ℕ

@@ -3,6 +3,7 @@ use Rattle.std.specs.Prelude.{◌≡◌, ℕ, ◌<◌, ◌≤◌, ◌⊎◌, Lis
 use Rattle.heap_layout.specs.Heap.{live, Heap}
 use Rattle.page_plan.specs.Sliding as sliding
 use Rattle.comp_handle.specs.Answers.{bare, done}
+use Rattle.comp_handle.specs.Statuses.{no_such_page, out_of_memory}
 use Rattle.comp_handle.specs.declared.answer.Answer.{Answer}
 
 -- the words of compacted page p, as nobody has written to them, or there is no memory; or there is no such page. The
@@ -10,8 +11,8 @@ use Rattle.comp_handle.specs.declared.answer.Answer.{Answer}
 abbrev pub CopiesPlanned : ℕ → List ℕ → List ℕ → Heap → Answer → Type 0
 CopiesPlanned p before after heap a =
     ((p < sliding.pages (live heap))
-    × (((after ≡ sliding.page (live heap) p) × (a ≡ done 0)) ⊎ ((after ≡ before) × (a ≡ bare 9 0))))
-    ⊎ ((sliding.pages (live heap) ≤ p) × (after ≡ before) × (a ≡ bare 12 p))
+    × (((after ≡ sliding.page (live heap) p) × (a ≡ done 0)) ⊎ ((after ≡ before) × (a ≡ bare out_of_memory 0))))
+    ⊎ ((sliding.pages (live heap) ≤ p) × (after ≡ before) × (a ≡ bare no_such_page p))
 
 -- the to-space address of the marked object at this address; null and immediates stay, and any other word becomes null
 abbrev pub led_by_plan : Heap → ℕ → ℕ

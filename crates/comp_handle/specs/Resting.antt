@@ -16,6 +16,7 @@ use Rattle.stopped_heap.specs.declared.fault.SlideFault.{SlideFault}
 use Rattle.stopped_heap.specs.declared.fault.SlideFault.TheVariants as slide
 use Rattle.stopped_heap.specs.declared.fault.SurveyFault.{SurveyFault}
 use Rattle.comp_handle.specs.Answers.{bare, done, of_collect, of_marks, of_slide, of_survey}
+use Rattle.comp_handle.specs.Statuses.{bad_edition, bad_root, not_empty, out_of_memory}
 use Rattle.comp_handle.specs.HandleKinds.{survey_in, Asks, Fills}
 use Rattle.comp_handle.specs.Making.{ByEdition}
 use Rattle.comp_handle.specs.declared.answer.Answer.{Answer}
@@ -30,7 +31,7 @@ asked edition words roots = record { edition = edition; words = words; roots = r
 abbrev pub OfEdition : ℕ → (Edition → Type 0) → Type 0 → Answer → Type 0
 OfEdition n Done R a =
     ((edition : Edition) × (version_of edition ≡ n) × Done edition)
-    ⊎ (((edition : Edition) → version_of edition ≢ n) × R × (a ≡ bare 19 n))
+    ⊎ (((edition : Edition) → version_of edition ≢ n) × R × (a ≡ bare bad_edition n))
 
 -- The heap was collected into a memory, and the answer has its live words; or roots and memory are as they were, and
 -- the answer says why.
@@ -103,12 +104,12 @@ CountsSurvey out found a = (out ≡ survey_facts_of found) × (a ≡ done 0)
 -- the second handle, which was empty, keeps the same as the first one then, or there is no memory
 abbrev pub Shares : {X : Type 0} → (Option Kept → Option X) → Option Kept → Option Kept → Option Kept → Answer → Type 0
 Shares find from to new a =
-    Asks 0 find (λ x b. Fills 1 (λ now c. ((find now ≡ Some x) × (c ≡ done 0)) ⊎ ((now ≡ None) × (c ≡ bare 9 0))) (Unit {0}) to new b) (new ≡ to) from a
+    Asks 0 find (λ x b. Fills 1 (λ now c. ((find now ≡ Some x) × (c ≡ done 0)) ⊎ ((now ≡ None) × (c ≡ bare out_of_memory 0))) (Unit {0}) to new b) (new ≡ to) from a
 
 -- why there is no share for the second handle
 abbrev pub IsUnsharedIn : {X : Type 0} → (Option Kept → Option X) → Bool → Option Kept → Answer → Type 0
 IsUnsharedIn find full from a =
-    Asks 0 find (λ x b. (IsTrue full × (b ≡ bare 11 1)) ⊎ (IsFalse full × (b ≡ bare 9 0))) (Unit {0}) from a
+    Asks 0 find (λ x b. (IsTrue full × (b ≡ bare not_empty 1)) ⊎ (IsFalse full × (b ≡ bare out_of_memory 0))) (Unit {0}) from a
 
 -- The part was filled with the words that stand there after the collection, as their objects are in these words now; or
 -- the answer says why not.
@@ -129,7 +130,7 @@ pub record IsFirstStray (found : Found) (roots : List ℕ) (k : ℕ) : Type 0 wh
 abbrev pub ForwardsRoots : List ℕ → List ℕ → Found → Answer → Type 0
 ForwardsRoots before after found a =
     ((a ≡ done 0) × All (IsValue found.edition found.marks) before × (after ≡ map (led_by found) before))
-    ⊎ ((after ≡ before) × ((k : ℕ) × (a ≡ bare 38 k) × IsFirstStray found before k))
+    ⊎ ((after ≡ before) × ((k : ℕ) × (a ≡ bare bad_root k) × IsFirstStray found before k))
 
 -- how many of these words are null
 abbrev pub nulls : List ℕ → ℕ

@@ -10,6 +10,7 @@ use Rattle.comp_crew.specs.Refusal.{Refusal}
 use Rattle.comp_crew.specs.Setup.{pages}
 use Rattle.comp_crew.specs.declared.member.Member.{Member}
 use Rattle.comp_handle.specs.Answers.{bare, done, of_refusal}
+use Rattle.comp_handle.specs.Statuses.{no_such_page}
 use Rattle.comp_handle.specs.Calling.{IsNeverBusyAlone}
 use Rattle.comp_handle.specs.HandleKinds.{mutator_in, Asks}
 use Rattle.comp_handle.specs.declared.answer.Answer.{Answer}
@@ -37,7 +38,7 @@ IsCopyAnswer (Err refusal) before after a = (after ≡ before) × (a ≡ of_refu
 -- page p is copied; or there is no such page, and nothing has changed
 abbrev pub CopiesSeen : ℕ → List ℕ → List ℕ → Member → Member → Answer → Type 0
 CopiesSeen p before after m n a =
-    ((pages (setup_of m) ≤ p) × (n ≡ m) × (after ≡ before) × (a ≡ bare 12 p))
+    ((pages (setup_of m) ≤ p) × (n ≡ m) × (after ≡ before) × (a ≡ bare no_such_page p))
     ⊎ ((p < pages (setup_of m)) × ((r : Result PageCopy Refusal) × IsCopyAnswer r before after a × SeesPage p m n r))
 
 -- the same for the mutator that a handle keeps; or it keeps none, and nothing has changed

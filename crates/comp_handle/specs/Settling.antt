@@ -5,6 +5,7 @@ use Rattle.comp_crew.specs.Finishing.{finished_of, rest_words}
 use Rattle.comp_crew.specs.NextHeap.{lowered}
 use Rattle.comp_crew.specs.declared.finishing.Ended.{Ended as End}
 use Rattle.comp_handle.specs.Answers.{bare, done, two}
+use Rattle.comp_handle.specs.Statuses.{out_of_memory, too_short}
 use Rattle.comp_handle.specs.declared.answer.Answer.{Answer}
 
 -- the roots of a finished heap, as addresses of the heap at rest
@@ -22,6 +23,6 @@ abbrev pub RestsAt : List ℕ → List ℕ → List ℕ → List ℕ → End →
 RestsAt words new_words roots new_roots e a =
     (StandsIn (rest_words e) words new_words × StandsIn (rest_roots e) roots new_roots × (a ≡ done (length (rest_words e))))
     ⊎ ((new_words ≡ words) × (new_roots ≡ roots)
-    × (((length words < length (rest_words e)) × (a ≡ two 22 (length (rest_words e)) 0))
-    ⊎ ((length (rest_words e) ≤ length words) × (length roots < length (rest_roots e)) × (a ≡ two 22 (length (rest_roots e)) 1))
-    ⊎ ((length (rest_words e) ≤ length words) × (length (rest_roots e) ≤ length roots) × (a ≡ bare 9 0))))
+    × (((length words < length (rest_words e)) × (a ≡ two too_short (length (rest_words e)) 0))
+    ⊎ ((length (rest_words e) ≤ length words) × (length roots < length (rest_roots e)) × (a ≡ two too_short (length (rest_roots e)) 1))
+    ⊎ ((length (rest_words e) ≤ length words) × (length (rest_roots e) ≤ length roots) × (a ≡ bare out_of_memory 0))))

@@ -10,6 +10,7 @@ use Rattle.comp_audit.specs.Explained.{Explains}
 use Rattle.comp_audit.specs.Wording.{explanation_text}
 use Rattle.comp_audit.specs.declared.explanation.Explanation.{Explanation}
 use Rattle.comp_handle.specs.Answers.{bare, done}
+use Rattle.comp_handle.specs.Statuses.{bad_options}
 use Rattle.comp_handle.specs.Copying.{CopiesAll}
 use Rattle.comp_handle.specs.Judging.{asks_whole, asks_words, faults_for, of_dump, read_by, StandsFor}
 use Rattle.comp_handle.specs.declared.answer.Answer.{Answer}
@@ -34,5 +35,5 @@ ExplainsBytes whole words bytes before after heap a =
 -- the same by options, or these have no meaning
 abbrev pub ExplainsBy : ℕ → List ℕ → List ℕ → List ℕ → Heap → Answer → Type 0
 ExplainsBy options bytes before after heap a =
-    ((3 < options) × (after ≡ before) × (a ≡ bare 32 options))
+    ((3 < options) × (after ≡ before) × (a ≡ bare bad_options options))
     ⊎ ((options ≤ 3) × ExplainsBytes (asks_whole options) (asks_words options) bytes before after heap a)

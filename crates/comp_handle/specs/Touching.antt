@@ -6,6 +6,7 @@ use Rattle.first_touch.specs.TurnAnswers.{IsAsItWas, IsTurnFault}
 use Rattle.first_touch.specs.declared.turns.TurnFault.{TurnFault}
 use Rattle.first_touch.specs.declared.turns.TurnFault.TheVariants as turn
 use Rattle.comp_handle.specs.Answers.{bare, done, of_slide}
+use Rattle.comp_handle.specs.Statuses.{no_such_page, no_turn, not_built, other_length, page_busy, page_home, turn_taken}
 use Rattle.comp_handle.specs.HandleKinds.{pages_in, Asks}
 use Rattle.comp_handle.specs.Paged.{having, turn_in, Paged}
 use Rattle.comp_handle.specs.declared.answer.Answer.{Answer}
@@ -22,17 +23,17 @@ Touches P R from left a = Asks 0 pages_in (λ p b. (q : Paged) × (pages_in left
 abbrev pub ClaimsFree : ℕ → Paged → Paged → Answer → Type 0
 ClaimsFree k p q a =
     ((k < p.turns.pages) × (q ≡ having p.turns (has.Turn (page_id p.turns.id k))) × (a ≡ done 0))
-    ⊎ ((p.turns.pages ≤ k) × (q ≡ p) × (a ≡ bare 12 k))
-    ⊎ ((k < p.turns.pages) × (q ≡ having p.turns (has.Home (page_id p.turns.id k))) × (a ≡ bare 194 k))
-    ⊎ ((k < p.turns.pages) × ((seen : Seen) × (q ≡ having p.turns (has.Sight seen)) × IsSeenBusy p.turns.id k seen × (a ≡ bare 195 k)))
+    ⊎ ((p.turns.pages ≤ k) × (q ≡ p) × (a ≡ bare no_such_page k))
+    ⊎ ((k < p.turns.pages) × (q ≡ having p.turns (has.Home (page_id p.turns.id k))) × (a ≡ bare page_home k))
+    ⊎ ((k < p.turns.pages) × ((seen : Seen) × (q ≡ having p.turns (has.Sight seen)) × IsSeenBusy p.turns.id k seen × (a ≡ bare page_busy k)))
 
 -- the same of a handle that may have a turn already: then nothing changes
 abbrev pub Claims : ℕ → Paged → Paged → Answer → Type 0
-Claims k p q a = MatchOption (turn_in p.has) (ClaimsFree k p q a) (λ j. (q ≡ p) × (a ≡ bare 196 j))
+Claims k p q a = MatchOption (turn_in p.has) (ClaimsFree k p q a) (λ j. (q ≡ p) × (a ≡ bare turn_taken j))
 
 -- a page was not built
 abbrev pub of_turn : TurnFault → Answer
-of_turn (turn.OtherRoom room) = bare 199 room
+of_turn (turn.OtherRoom room) = bare other_length room
 of_turn (turn.Slide fault) = of_slide fault
 
 -- The memory has the words that slide to page k out of these words, and the handle may publish it. Or the answer says
@@ -45,7 +46,7 @@ BuildsAt k words before after turns q a =
 
 -- nothing changes, since the handle has not the turn for a page that is not built yet
 abbrev pub HasNoTurn : List ℕ → List ℕ → Paged → Paged → Answer → Type 0
-HasNoTurn before after p q a = (after ≡ before) × (q ≡ p) × (a ≡ bare 198 0)
+HasNoTurn before after p q a = (after ≡ before) × (q ≡ p) × (a ≡ bare no_turn 0)
 
 -- the same of a handle that has this
 abbrev pub BuildsIn : List ℕ → List ℕ → List ℕ → TurnDesk → Has → Paged → Answer → Type 0
@@ -61,10 +62,10 @@ Builds words before after p q a = BuildsIn words before after p.turns p.has q a
 -- The page that was built is home, as the handle knows now. Or nothing changes: the page is not built, or there is no
 -- turn.
 abbrev pub PublishesIn : TurnDesk → Has → Paged → Answer → Type 0
-PublishesIn turns has.Nothing q a = (q ≡ having turns has.Nothing) × (a ≡ bare 198 0)
-PublishesIn turns (has.Sight sight) q a = (q ≡ having turns (has.Sight sight)) × (a ≡ bare 198 0)
-PublishesIn turns (has.Home home) q a = (q ≡ having turns (has.Home home)) × (a ≡ bare 198 0)
-PublishesIn turns (has.Turn turn) q a = (q ≡ having turns (has.Turn turn)) × (a ≡ bare 20 turn.page)
+PublishesIn turns has.Nothing q a = (q ≡ having turns has.Nothing) × (a ≡ bare no_turn 0)
+PublishesIn turns (has.Sight sight) q a = (q ≡ having turns (has.Sight sight)) × (a ≡ bare no_turn 0)
+PublishesIn turns (has.Home home) q a = (q ≡ having turns (has.Home home)) × (a ≡ bare no_turn 0)
+PublishesIn turns (has.Turn turn) q a = (q ≡ having turns (has.Turn turn)) × (a ≡ bare not_built turn.page)
 PublishesIn turns (has.Filled filled) q a = (q ≡ having turns (has.Home filled)) × (a ≡ done 0)
 
 abbrev pub Publishes : Paged → Paged → Answer → Type 0

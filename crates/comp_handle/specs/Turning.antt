@@ -16,6 +16,7 @@ use Rattle.comp_crew.specs.declared.fault.FinishFault.{FinishFault}
 use Rattle.comp_crew.specs.declared.fault.FinishFault.TheVariants as finish
 use Rattle.comp_crew.specs.declared.finishing.Ended.{Ended as End}
 use Rattle.comp_handle.specs.Answers.{bare, done, of_layout}
+use Rattle.comp_handle.specs.Statuses.{mutator_missing, out_of_memory, still_shared}
 use Rattle.comp_handle.specs.HandleKinds.{plan_in}
 use Rattle.comp_handle.specs.declared.answer.Answer.{Answer}
 use Rattle.comp_handle.specs.declared.kept.Kept.{Kept}
@@ -27,13 +28,13 @@ Plans heap now a = (plan_in now ≡ Some heap) × (a ≡ done 0)
 
 -- for want of memory alone it does not
 abbrev pub IsUnplanned : Heap → Answer → Type 0
-IsUnplanned heap a = a ≡ bare 9 0
+IsUnplanned heap a = a ≡ bare out_of_memory 0
 
 -- why a crew is not finished
 abbrev pub of_finish : FinishFault → Answer
-of_finish finish.OutOfMemory = bare 9 0
-of_finish (finish.MutatorMissing k) = bare 16 k
-of_finish finish.StillShared = bare 28 0
+of_finish finish.OutOfMemory = bare out_of_memory 0
+of_finish (finish.MutatorMissing k) = bare mutator_missing k
+of_finish finish.StillShared = bare still_shared 0
 
 -- a crew becomes its finished heap
 abbrev pub Finishes : Bench → Option Kept → Answer → Type 0

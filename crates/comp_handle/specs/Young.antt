@@ -16,6 +16,7 @@ use Rattle.young_heap.specs.declared.fault.OldFault.TheVariants as unkept
 use Rattle.young_heap.specs.declared.fault.YoungFault.{YoungFault}
 use Rattle.young_heap.specs.declared.fault.YoungFault.TheVariants as young
 use Rattle.comp_handle.specs.Answers.{bare, done, of_survey}
+use Rattle.comp_handle.specs.Statuses.{few_cards, few_words, leads_above, not_a_field, not_a_row, out_of_memory, short_tables, too_large}
 use Rattle.comp_handle.specs.HandleKinds.{old_in, Asks}
 use Rattle.comp_handle.specs.Resting.{OfEdition}
 use Rattle.comp_handle.specs.declared.answer.Answer.{Answer}
@@ -23,17 +24,17 @@ use Rattle.comp_handle.specs.declared.kept.Kept.{Kept}
 
 -- a heap was not collected by tables with a watermark
 abbrev pub of_young : YoungFault → Answer
-of_young young.TooLarge = bare 33 0
-of_young (young.ShortTables room) = bare 30 room
-of_young (young.FewWords watermark) = bare 221 watermark
-of_young (young.FewCards count) = bare 222 count
-of_young (young.NotAField i) = bare 223 i
+of_young young.TooLarge = bare too_large 0
+of_young (young.ShortTables room) = bare short_tables room
+of_young (young.FewWords watermark) = bare few_words watermark
+of_young (young.FewCards count) = bare few_cards count
+of_young (young.NotAField i) = bare not_a_field i
 of_young (young.Survey fault) = of_survey fault
 
 -- the words below the watermark are not as they have to be kept
 abbrev pub of_old : OldFault → Answer
-of_old (unkept.NotARow i) = bare 224 i
-of_old (unkept.LeadsAbove i) = bare 225 i
+of_old (unkept.NotARow i) = bare not_a_row i
+of_old (unkept.LeadsAbove i) = bare leads_above i
 
 -- P of the tables that the handle keeps before and after; or it keeps none, and stays, and R
 abbrev pub ChangesOld : (Watermarked → Watermarked → Answer → Type 0) → Type 0 → Option Kept → Option Kept → Answer → Type 0
@@ -43,7 +44,7 @@ ChangesOld P R from left a = Asks 0 old_in (λ t b. (u : Watermarked) × (old_in
 abbrev pub ReservesOld : ℕ → Option Kept → Answer → Type 0
 ReservesOld words now a =
     ((t : Watermarked) × (old_in now ≡ Some t) × (t.room ≡ words) × (t.watermark ≡ 0) × (t.survived ≡ 0) × (a ≡ done 0))
-    ⊎ ((now ≡ None) × (a ≡ bare 9 0))
+    ⊎ ((now ≡ None) × (a ≡ bare out_of_memory 0))
 
 -- the answer has the watermark
 abbrev pub SaysWatermark : Watermarked → Answer → Type 0

@@ -2,6 +2,7 @@
 ghost use Rattle.std.specs.Prelude.{◌≡◌};
 ghost use Rattle.comp_handle.specs.Answers.{bare, done, of_collect, of_collect_lent, of_layout, of_lent, of_marks, of_refusal, of_slide, of_survey, two, IsAnswer, IsPlace};
 
+use crate::status;
 use comp_crew::Refusal;
 use heap_layout::LayoutFault;
 use stopped_heap::{
@@ -71,15 +72,15 @@ impl Answer {
         ensures { result ≡ of_refusal n refusal }
     {
         match refusal {
-            Refusal::Busy(p) => Answer::bare(1, p),
-            Refusal::Null => Answer::bare(2, 0),
-            Refusal::NotAStart(a) => Answer::bare(3, a),
-            Refusal::NoSuchField => Answer::bare(4, u64::from(n)),
-            Refusal::NotInEdition => Answer::bare(5, 0),
-            Refusal::ObjectTooLarge => Answer::bare(6, u64::from(n)),
-            Refusal::OutOfPages => Answer::bare(7, 0),
-            Refusal::JournalFull(p) => Answer::bare(8, p),
-            Refusal::OutOfMemory => Answer::bare(9, 0),
+            Refusal::Busy(p) => Answer::bare(status::BUSY, p),
+            Refusal::Null => Answer::bare(status::NULL_OBJECT, 0),
+            Refusal::NotAStart(a) => Answer::bare(status::NOT_A_START, a),
+            Refusal::NoSuchField => Answer::bare(status::NO_SUCH_FIELD, u64::from(n)),
+            Refusal::NotInEdition => Answer::bare(status::NOT_IN_EDITION, 0),
+            Refusal::ObjectTooLarge => Answer::bare(status::OBJECT_TOO_LARGE, u64::from(n)),
+            Refusal::OutOfPages => Answer::bare(status::OUT_OF_PAGES, 0),
+            Refusal::JournalFull(p) => Answer::bare(status::JOURNAL_FULL, p),
+            Refusal::OutOfMemory => Answer::bare(status::OUT_OF_MEMORY, 0),
         }
     }
 
@@ -98,19 +99,19 @@ impl Answer {
         ensures { result ≡ of_layout fault }
     {
         match fault {
-            LayoutFault::TooLarge => Answer::bare(33, 0),
-            LayoutFault::ObjectPastEnd(i) => Answer::bare(34, i),
-            LayoutFault::ObjectTooLong(i) => Answer::bare(35, i),
-            LayoutFault::MarkNotStart(i) => Answer::bare(36, i),
-            LayoutFault::MarksNotRising(i) => Answer::bare(37, i),
-            LayoutFault::BadRoot(i) => Answer::bare(38, i),
-            LayoutFault::UnmarkedTarget(i) => Answer::bare(39, i),
-            LayoutFault::Truncated => Answer::bare(40, 0),
-            LayoutFault::TrailingBytes => Answer::bare(41, 0),
-            LayoutFault::BadMagic => Answer::bare(42, 0),
-            LayoutFault::OutOfMemory => Answer::bare(9, 0),
-            LayoutFault::Device => Answer::bare(9, 0),
-            LayoutFault::BadWeak(i) => Answer::bare(45, i),
+            LayoutFault::TooLarge => Answer::bare(status::TOO_LARGE, 0),
+            LayoutFault::ObjectPastEnd(i) => Answer::bare(status::OBJECT_PAST_END, i),
+            LayoutFault::ObjectTooLong(i) => Answer::bare(status::OBJECT_TOO_LONG, i),
+            LayoutFault::MarkNotStart(i) => Answer::bare(status::MARK_NOT_START, i),
+            LayoutFault::MarksNotRising(i) => Answer::bare(status::MARKS_NOT_RISING, i),
+            LayoutFault::BadRoot(i) => Answer::bare(status::BAD_ROOT, i),
+            LayoutFault::UnmarkedTarget(i) => Answer::bare(status::UNMARKED_TARGET, i),
+            LayoutFault::Truncated => Answer::bare(status::IMAGE_TRUNCATED, 0),
+            LayoutFault::TrailingBytes => Answer::bare(status::IMAGE_TRAILING, 0),
+            LayoutFault::BadMagic => Answer::bare(status::IMAGE_BAD_MAGIC, 0),
+            LayoutFault::OutOfMemory => Answer::bare(status::OUT_OF_MEMORY, 0),
+            LayoutFault::Device => Answer::bare(status::OUT_OF_MEMORY, 0),
+            LayoutFault::BadWeak(i) => Answer::bare(status::BAD_WEAK, i),
         }
     }
 
@@ -119,14 +120,14 @@ impl Answer {
         ensures { result ≡ of_survey fault }
     {
         match fault {
-            SurveyFault::TooLarge => Answer::bare(33, 0),
-            SurveyFault::BadRoot(k) => Answer::bare(38, k),
-            SurveyFault::BadReference(i) => Answer::bare(131, i),
-            SurveyFault::BadWeak(i) => Answer::bare(45, i),
-            SurveyFault::ObjectTooLong(i) => Answer::bare(35, i),
-            SurveyFault::ObjectPastEnd(i) => Answer::bare(34, i),
-            SurveyFault::Overlap(i) => Answer::bare(135, i),
-            SurveyFault::OutOfMemory => Answer::bare(9, 0),
+            SurveyFault::TooLarge => Answer::bare(status::TOO_LARGE, 0),
+            SurveyFault::BadRoot(k) => Answer::bare(status::BAD_ROOT, k),
+            SurveyFault::BadReference(i) => Answer::bare(status::BAD_REFERENCE, i),
+            SurveyFault::BadWeak(i) => Answer::bare(status::BAD_WEAK, i),
+            SurveyFault::ObjectTooLong(i) => Answer::bare(status::OBJECT_TOO_LONG, i),
+            SurveyFault::ObjectPastEnd(i) => Answer::bare(status::OBJECT_PAST_END, i),
+            SurveyFault::Overlap(i) => Answer::bare(status::OVERLAP, i),
+            SurveyFault::OutOfMemory => Answer::bare(status::OUT_OF_MEMORY, 0),
         }
     }
 
@@ -135,15 +136,15 @@ impl Answer {
         ensures { result ≡ of_marks fault }
     {
         match fault {
-            MarksFault::TooLarge => Answer::bare(33, 0),
-            MarksFault::WrongLength => Answer::bare(31, 0),
-            MarksFault::BadRoot(k) => Answer::bare(38, k),
-            MarksFault::ObjectTooLong(i) => Answer::bare(35, i),
-            MarksFault::ObjectPastEnd(i) => Answer::bare(34, i),
-            MarksFault::Overlap(i) => Answer::bare(135, i),
-            MarksFault::UnmarkedTarget(i) => Answer::bare(39, i),
-            MarksFault::BadWeak(i) => Answer::bare(45, i),
-            MarksFault::OutOfMemory => Answer::bare(9, 0),
+            MarksFault::TooLarge => Answer::bare(status::TOO_LARGE, 0),
+            MarksFault::WrongLength => Answer::bare(status::WRONG_LENGTH, 0),
+            MarksFault::BadRoot(k) => Answer::bare(status::BAD_ROOT, k),
+            MarksFault::ObjectTooLong(i) => Answer::bare(status::OBJECT_TOO_LONG, i),
+            MarksFault::ObjectPastEnd(i) => Answer::bare(status::OBJECT_PAST_END, i),
+            MarksFault::Overlap(i) => Answer::bare(status::OVERLAP, i),
+            MarksFault::UnmarkedTarget(i) => Answer::bare(status::UNMARKED_TARGET, i),
+            MarksFault::BadWeak(i) => Answer::bare(status::BAD_WEAK, i),
+            MarksFault::OutOfMemory => Answer::bare(status::OUT_OF_MEMORY, 0),
         }
     }
 
@@ -152,10 +153,10 @@ impl Answer {
         ensures { result ≡ of_slide fault }
     {
         match fault {
-            SlideFault::NoSuchPart => Answer::bare(25, 0),
-            SlideFault::OtherCount => Answer::bare(29, 0),
-            SlideFault::Changed(i) => Answer::bare(26, i),
-            SlideFault::Unmarked(i) => Answer::bare(27, i),
+            SlideFault::NoSuchPart => Answer::bare(status::NO_SUCH_PART, 0),
+            SlideFault::OtherCount => Answer::bare(status::OTHER_COUNT, 0),
+            SlideFault::Changed(i) => Answer::bare(status::CHANGED, i),
+            SlideFault::Unmarked(i) => Answer::bare(status::UNMARKED, i),
         }
     }
 
@@ -165,7 +166,7 @@ impl Answer {
     {
         match fault {
             CollectFault::Survey(fault) => Answer::unsurveyed(fault),
-            CollectFault::NoRoom(live) => Answer::bare(22, live),
+            CollectFault::NoRoom(live) => Answer::bare(status::TOO_SHORT, live),
         }
     }
 
@@ -174,7 +175,7 @@ impl Answer {
         ensures { result ≡ of_lent fault }
     {
         match fault {
-            LentFault::ShortTables(room) => Answer::bare(30, room),
+            LentFault::ShortTables(room) => Answer::bare(status::SHORT_TABLES, room),
             LentFault::Survey(fault) => Answer::unsurveyed(fault),
         }
     }
@@ -184,7 +185,7 @@ impl Answer {
         ensures { result ≡ of_collect_lent fault }
     {
         match fault {
-            CollectLentFault::ShortTables(room) => Answer::bare(30, room),
+            CollectLentFault::ShortTables(room) => Answer::bare(status::SHORT_TABLES, room),
             CollectLentFault::Collect(fault) => Answer::uncollected(fault),
         }
     }

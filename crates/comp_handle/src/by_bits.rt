@@ -6,6 +6,7 @@ use crate::answer::Answer;
 use crate::handle::Handle;
 use crate::opening::is_full;
 use crate::resting::keep_found;
+use crate::status;
 use heap_layout::{Edition, edition_of};
 use std::alloc::Global;
 use stopped_heap::{BitsFault, Places};
@@ -15,13 +16,13 @@ pub(crate) fn untaken(n: u32, fault: BitsFault) -> Answer
     ensures { result ≡ of_bits n fault }
 {
     match fault {
-        BitsFault::TooLarge => Answer::bare(33, 0),
-        BitsFault::ShortObjects => Answer::bare(19, u64::from(n)),
-        BitsFault::WrongLength => Answer::bare(31, 0),
-        BitsFault::BadRoot(k) => Answer::bare(38, k),
-        BitsFault::NotARun(i) => Answer::bare(192, i),
-        BitsFault::PastEnd(i) => Answer::bare(34, i),
-        BitsFault::OutOfMemory => Answer::bare(9, 0),
+        BitsFault::TooLarge => Answer::bare(status::TOO_LARGE, 0),
+        BitsFault::ShortObjects => Answer::bare(status::BAD_EDITION, u64::from(n)),
+        BitsFault::WrongLength => Answer::bare(status::WRONG_LENGTH, 0),
+        BitsFault::BadRoot(k) => Answer::bare(status::BAD_ROOT, k),
+        BitsFault::NotARun(i) => Answer::bare(status::NOT_A_RUN, i),
+        BitsFault::PastEnd(i) => Answer::bare(status::OBJECT_PAST_END, i),
+        BitsFault::OutOfMemory => Answer::bare(status::OUT_OF_MEMORY, 0),
     }
 }
 
@@ -67,10 +68,10 @@ pub fn survey_by_bits(
     ensures { SurveysByBits edition count roots.now heads.now bits.now out.old.kept out.new.kept result }
 {
     if is_full(alloc, out) {
-        return Answer::bare(11, 0);
+        return Answer::bare(status::NOT_EMPTY, 0);
     }
     match edition_of(edition, true) {
         Some(found) => survey_bits(alloc, edition, found, count, roots, heads, bits, out),
-        None => Answer::bare(19, u64::from(edition)),
+        None => Answer::bare(status::BAD_EDITION, u64::from(edition)),
     }
 }

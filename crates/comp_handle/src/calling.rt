@@ -7,6 +7,7 @@ ghost use Rattle.comp_handle.specs.declared.calling.Call.TheVariants as calls;
 use crate::answer::Answer;
 use crate::handle::Handle;
 use crate::kept::Kept;
+use crate::status;
 use comp_crew::{Member, Refusal, Touched};
 use heap_layout::{Header, Kind};
 use std::alloc::Global;
@@ -45,7 +46,7 @@ fn touch(alloc: Global, m: &mut Member, p: u64) -> Answer
     ensures touches { Touches p m.old m.new result }
 {
     if p >= m.pages() {
-        return Answer::bare(12, p);
+        return Answer::bare(status::NO_SUCH_PAGE, p);
     }
     match m.try_touch(alloc, p) {
         Ok(Touched::Built) => Answer::done(1),
@@ -62,7 +63,7 @@ fn root(m: &Member, i: u64) -> Answer
     if i < roots.len() as u64 {
         Answer::done(roots[i as usize])
     } else {
-        Answer::bare(13, i)
+        Answer::bare(status::NO_SUCH_ROOT, i)
     }
 }
 
@@ -119,7 +120,7 @@ fn perform(alloc: Global, m: &mut Member, call: Call) -> Answer
         Call::Alloc(word) => alloc_word(alloc, m, word),
         Call::Touch(p) => touch(alloc, m, p),
         Call::Root(i) => root(m, i),
-        Call::Build(i) => Answer::place(m.builds(), i, 23),
+        Call::Build(i) => Answer::place(m.builds(), i, status::NO_SUCH_BUILD),
     }
 }
 
@@ -129,11 +130,11 @@ pub fn make_call(alloc: Global, h: &mut Handle, call: Call) -> Answer
     ensures { Calls (Does call) h.old.kept h.new.kept result }
 {
     let Some(mut kept) = h.take(alloc) else {
-        return Answer::bare(10, 0);
+        return Answer::bare(status::EMPTY_HANDLE, 0);
     };
     let answer = match kept.as_mut() {
         Kept::Mutator(m) => perform(alloc, m, call),
-        _ => Answer::bare(255, 0),
+        _ => Answer::bare(status::WRONG_HANDLE, 0),
     };
     h.put_back(kept);
     answer

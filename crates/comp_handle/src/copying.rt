@@ -6,6 +6,7 @@ ghost use Rattle.comp_handle.specs.HandleKinds.{end_in, mutator_in, Asks};
 use crate::answer::Answer;
 use crate::handle::Handle;
 use crate::kinds::{as_end, as_mutator};
+use crate::status;
 use comp_crew::{Ended, Member};
 use std::alloc::Global;
 
@@ -15,7 +16,7 @@ fn copy_numbers(list: &[u64], out: &mut [u64]) -> Answer
 {
     let count = list.len();
     if out.len() < count {
-        return Answer::bare(22, count as u64);
+        return Answer::bare(status::TOO_SHORT, count as u64);
     }
     out[..count].copy_from_slice(list);
     Answer::done(count as u64)
@@ -27,7 +28,7 @@ pub(crate) fn copy_bytes(list: &[u8], out: &mut [u8]) -> Answer
 {
     let count = list.len();
     if out.len() < count {
-        return Answer::bare(22, count as u64);
+        return Answer::bare(status::TOO_SHORT, count as u64);
     }
     out[..count].copy_from_slice(list);
     Answer::done(count as u64)
@@ -47,11 +48,11 @@ pub fn mutator_roots(alloc: Global, h: &mut Handle, out: &mut [u64]) -> Answer
     ensures copies { Asks 0 mutator_in (CopiesRoots out.old out.new) (out.new ≡ out.old) h.old.kept result }
 {
     let Some(kept) = h.take(alloc) else {
-        return Answer::bare(10, 0);
+        return Answer::bare(status::EMPTY_HANDLE, 0);
     };
     let answer = match as_mutator(kept.as_ref()) {
         Some(m) => copy_roots(m, out),
-        None => Answer::bare(255, 0),
+        None => Answer::bare(status::WRONG_HANDLE, 0),
     };
     h.put_back(kept);
     answer
@@ -71,11 +72,11 @@ pub fn end_roots(alloc: Global, h: &mut Handle, out: &mut [u64]) -> Answer
     ensures copies { Asks 0 end_in (CopiesEndRoots out.old out.new) (out.new ≡ out.old) h.old.kept result }
 {
     let Some(kept) = h.take(alloc) else {
-        return Answer::bare(10, 0);
+        return Answer::bare(status::EMPTY_HANDLE, 0);
     };
     let answer = match as_end(kept.as_ref()) {
         Some(e) => copy_end_roots(e, out),
-        None => Answer::bare(255, 0),
+        None => Answer::bare(status::WRONG_HANDLE, 0),
     };
     h.put_back(kept);
     answer

@@ -6,12 +6,14 @@ ghost use Rattle.comp_handle.specs.Answers.{bare};
 ghost use Rattle.comp_handle.specs.Crewing.{most_fresh, Flips, FlipsOf, IsCount, IsUnflipped, IsUnshared, IsUnsplit, IsUntaken, Splits, Takes};
 ghost use Rattle.comp_handle.specs.Keeping.{IsKept};
 ghost use Rattle.comp_handle.specs.HandleKinds.{plan_in};
+ghost use Rattle.comp_handle.specs.Statuses.{not_empty};
 
 use crate::answer::Answer;
 use crate::handle::Handle;
 use crate::kept::Kept;
 use crate::kinds::{as_plan, into_crew};
 use crate::opening::{Opened, close, is_full, keep, open};
+use crate::status;
 use comp_crew::{Bench, Member, flip};
 use heap_layout::MAX_MUTATORS;
 use page_plan::Plan;
@@ -43,15 +45,15 @@ fn share(plan: &Arc<Plan>, n: u32, fresh_pages: u32) -> Result<Arc<Plan>, Answer
     ensures none { IfErr result (IsUnflipped plan.now.value n fresh_pages) }
 {
     if !is_count(n) {
-        return Err(Answer::bare(14, u64::from(n)));
+        return Err(Answer::bare(status::BAD_MUTATORS, u64::from(n)));
     }
     let most = most_fresh(&**plan);
     if u64::from(fresh_pages) > most {
-        return Err(Answer::bare(15, most));
+        return Err(Answer::bare(status::TOO_MANY_PAGES, most));
     }
     match Arc::try_clone(plan) {
         Ok(plan) => Ok(plan),
-        Err(_) => Err(Answer::bare(9, 0)),
+        Err(_) => Err(Answer::bare(status::OUT_OF_MEMORY, 0)),
     }
 }
 
@@ -60,10 +62,10 @@ fn share_for(plan: &Arc<Plan>, full: bool, n: u32, fresh_pages: u32) -> Result<A
     ensures plan { IfOk result (λ own. own.value ≡ plan.now.value) }
     ensures good { IfOk result (λ _. IsCount n × (fresh_pages ≤ most_fresh plan.now.value)) }
     ensures free { IfOk result (λ _. IsFalse full) }
-    ensures none { IfErr result (λ a. (IsTrue full × (a ≡ bare 11 1)) ⊎ (IsFalse full × IsUnflipped plan.now.value n fresh_pages a)) }
+    ensures none { IfErr result (λ a. (IsTrue full × (a ≡ bare not_empty 1)) ⊎ (IsFalse full × IsUnflipped plan.now.value n fresh_pages a)) }
 {
     if full {
-        Err(Answer::bare(11, 1))
+        Err(Answer::bare(status::NOT_EMPTY, 1))
     } else {
         share(plan, n, fresh_pages)
     }
@@ -84,11 +86,11 @@ fn plan_of(
     ensures none { IfErr result (IsUnshared full n fresh_pages h.old.kept) }
 {
     let Some(kept) = h.take(alloc) else {
-        return Err(Answer::bare(10, 0));
+        return Err(Answer::bare(status::EMPTY_HANDLE, 0));
     };
     let plan = match as_plan(kept.as_ref()) {
         Some(plan) => share_for(plan, full, n, fresh_pages),
-        None => Err(Answer::bare(255, 0)),
+        None => Err(Answer::bare(status::WRONG_HANDLE, 0)),
     };
     h.put_back(kept);
     plan
@@ -113,10 +115,10 @@ fn flip_plan(
             if keep(alloc, crew, Kept::Crew(bench)) {
                 Answer::done(u64::from(n))
             } else {
-                Answer::bare(9, 0)
+                Answer::bare(status::OUT_OF_MEMORY, 0)
             }
         }
-        Err(_) => Answer::bare(9, 0),
+        Err(_) => Answer::bare(status::OUT_OF_MEMORY, 0),
     }
 }
 
@@ -164,15 +166,15 @@ fn seat_one(alloc: Global, bench: &mut Bench) -> Result<Seated, Answer>
     ensures untaken { IfErr result (λ a. (bench.new ≡ bench.old) × IsUntaken bench.old a) }
 {
     if bench.is_empty() {
-        return Err(Answer::bare(18, 0));
+        return Err(Answer::bare(status::NO_MUTATOR_LEFT, 0));
     }
     let Ok(seat) = Box::new(alloc, Kept::Nothing) else {
-        return Err(Answer::bare(9, 0));
+        return Err(Answer::bare(status::OUT_OF_MEMORY, 0));
     };
     match bench.take() {
         Ok(Some(member)) => Ok(Seated { seat, member }),
-        Ok(None) => Err(Answer::bare(18, 0)),
-        Err(_) => Err(Answer::bare(9, 0)),
+        Ok(None) => Err(Answer::bare(status::NO_MUTATOR_LEFT, 0)),
+        Err(_) => Err(Answer::bare(status::OUT_OF_MEMORY, 0)),
     }
 }
 
@@ -188,12 +190,12 @@ fn split_off(alloc: Global, kept: Kept, full: bool) -> Split
         Err(kept) => {
             return Split {
                 kept,
-                taken: Err(Answer::bare(255, 0)),
+                taken: Err(Answer::bare(status::WRONG_HANDLE, 0)),
             };
         }
     };
     let taken = if full {
-        Err(Answer::bare(11, 1))
+        Err(Answer::bare(status::NOT_EMPTY, 1))
     } else {
         seat_one(alloc, &mut bench)
     };
@@ -211,7 +213,7 @@ pub fn take_member(alloc: Global, crew: &mut Handle, out: &mut Handle) -> Answer
 {
     let full = is_full(alloc, out);
     let Some(Opened { room, kept }) = open(alloc, crew) else {
-        return Answer::bare(10, 0);
+        return Answer::bare(status::EMPTY_HANDLE, 0);
     };
     let Split { kept, taken } = split_off(alloc, kept, full);
     close(crew, room, kept);

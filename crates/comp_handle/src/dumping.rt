@@ -11,6 +11,7 @@ use crate::copying::copy_bytes;
 use crate::handle::Handle;
 use crate::kinds::as_end;
 use crate::sizes::dump_len;
+use crate::status;
 use comp_crew::Ended;
 use comp_dump::{Dump, write_dump};
 use heap_layout::{Counted, OutOfMemory};
@@ -45,11 +46,11 @@ fn copy_bytes_of(alloc: Global, dump: &Dump<'_>, out: &mut [u8]) -> Answer
 {
     let size = dump_len(dump);
     if (out.len() as u64) < size {
-        return Answer::bare(22, size);
+        return Answer::bare(status::TOO_SHORT, size);
     }
     match bytes_of(alloc, dump, size as usize) {
         Ok(bytes) => copy_bytes(&bytes, out),
-        Err(_) => Answer::bare(9, 0),
+        Err(_) => Answer::bare(status::OUT_OF_MEMORY, 0),
     }
 }
 
@@ -60,7 +61,7 @@ fn copy_dump(alloc: Global, e: &Ended, out: &mut [u8]) -> Answer
 {
     match dump_at(alloc, e) {
         Ok(dump) => copy_bytes_of(alloc, &dump, out),
-        Err(_) => Answer::bare(9, 0),
+        Err(_) => Answer::bare(status::OUT_OF_MEMORY, 0),
     }
 }
 
@@ -72,11 +73,11 @@ pub fn copy_dump_of(alloc: Global, h: &mut Handle, out: &mut [u8]) -> Answer
     ensures copies { Asks 0 end_in (WritesDump out.old out.new) (out.new ≡ out.old) h.old.kept result }
 {
     let Some(kept) = h.take(alloc) else {
-        return Answer::bare(10, 0);
+        return Answer::bare(status::EMPTY_HANDLE, 0);
     };
     let answer = match as_end(kept.as_ref()) {
         Some(e) => copy_dump(alloc, e, out),
-        None => Answer::bare(255, 0),
+        None => Answer::bare(status::WRONG_HANDLE, 0),
     };
     h.put_back(kept);
     answer

@@ -7,6 +7,7 @@ ghost use Rattle.comp_handle.specs.HandleKinds.{end_in, Asks};
 use crate::answer::Answer;
 use crate::handle::Handle;
 use crate::kinds::as_end;
+use crate::status;
 use comp_crew::Ended;
 use heap_layout::Kind;
 use std::alloc::Global;
@@ -36,7 +37,7 @@ fn build_count(e: &Ended, k: u32) -> Answer
 {
     match built(e, k) {
         Some(list) => Answer::done(list.len() as u64),
-        None => Answer::bare(24, u64::from(k)),
+        None => Answer::bare(status::NO_SUCH_MUTATOR, u64::from(k)),
     }
 }
 
@@ -45,8 +46,8 @@ fn build_at(e: &Ended, k: u32, i: u64) -> Answer
     ensures { IsBuildOf k i (built_by e.now k) result }
 {
     match built(e, k) {
-        Some(list) => Answer::place(list, i, 23),
-        None => Answer::bare(24, u64::from(k)),
+        Some(list) => Answer::place(list, i, status::NO_SUCH_BUILD),
+        None => Answer::bare(status::NO_SUCH_MUTATOR, u64::from(k)),
     }
 }
 
@@ -66,11 +67,11 @@ pub fn ask(alloc: Global, h: &mut Handle, question: Question) -> Answer
     ensures looks { Asks 0 end_in (Tells question) (Unit {0}) h.old.kept result }
 {
     let Some(kept) = h.take(alloc) else {
-        return Answer::bare(10, 0);
+        return Answer::bare(status::EMPTY_HANDLE, 0);
     };
     let answer = match as_end(kept.as_ref()) {
         Some(e) => look(e, question),
-        None => Answer::bare(255, 0),
+        None => Answer::bare(status::WRONG_HANDLE, 0),
     };
     h.put_back(kept);
     answer
@@ -82,14 +83,14 @@ fn copy_page(e: &Ended, p: u64, out: &mut [u64; 64]) -> Answer
 {
     let pages = e.finished().pages();
     if p >= pages.len() as u64 {
-        return Answer::bare(12, p);
+        return Answer::bare(status::NO_SUCH_PAGE, p);
     }
     match pages.page(p as usize) {
         Some(page) => {
             *out = page.words();
             Answer::done(page.journal().len() as u64)
         }
-        None => Answer::bare(20, p),
+        None => Answer::bare(status::NOT_BUILT, p),
     }
 }
 
@@ -100,11 +101,11 @@ pub fn page_words(alloc: Global, h: &mut Handle, p: u64, out: &mut [u64; 64]) ->
     ensures copies { Asks 0 end_in (λ e. CopiesPage p (pages_at_end e) out.old out.new) (out.new ≡ out.old) h.old.kept result }
 {
     let Some(kept) = h.take(alloc) else {
-        return Answer::bare(10, 0);
+        return Answer::bare(status::EMPTY_HANDLE, 0);
     };
     let answer = match as_end(kept.as_ref()) {
         Some(e) => copy_page(e, p, out),
-        None => Answer::bare(255, 0),
+        None => Answer::bare(status::WRONG_HANDLE, 0),
     };
     h.put_back(kept);
     answer
@@ -145,14 +146,14 @@ fn copy_entry(e: &Ended, p: u64, i: u64, out: &mut Written) -> Answer
 {
     let pages = e.finished().pages();
     if p >= pages.len() as u64 {
-        return Answer::bare(12, p);
+        return Answer::bare(status::NO_SUCH_PAGE, p);
     }
     let Some(page) = pages.page(p as usize) else {
-        return Answer::bare(20, p);
+        return Answer::bare(status::NOT_BUILT, p);
     };
     let journal = page.journal();
     if i >= journal.len() as u64 {
-        return Answer::bare(21, i);
+        return Answer::bare(status::NO_SUCH_ENTRY, i);
     }
     let entry = journal[i as usize];
     *out = Written {
@@ -171,11 +172,11 @@ pub fn page_entry(alloc: Global, h: &mut Handle, p: u64, i: u64, out: &mut Writt
     ensures copies { Asks 0 end_in (λ e. CopiesEntry p i (pages_at_end e) out.old out.new) (out.new ≡ out.old) h.old.kept result }
 {
     let Some(kept) = h.take(alloc) else {
-        return Answer::bare(10, 0);
+        return Answer::bare(status::EMPTY_HANDLE, 0);
     };
     let answer = match as_end(kept.as_ref()) {
         Some(e) => copy_entry(e, p, i, out),
-        None => Answer::bare(255, 0),
+        None => Answer::bare(status::WRONG_HANDLE, 0),
     };
     h.put_back(kept);
     answer

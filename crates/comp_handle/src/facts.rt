@@ -11,6 +11,7 @@ use crate::answer::Answer;
 use crate::crewing::most_fresh;
 use crate::handle::Handle;
 use crate::kinds::{as_end, as_heap, as_mutator, as_plan};
+use crate::status;
 use comp_crew::{Ended, Member};
 use heap_layout::{Edition, MarkedHeap};
 use page_plan::Plan;
@@ -149,11 +150,11 @@ pub fn mutator_facts(alloc: Global, h: &mut Handle, out: &mut MutatorFacts) -> A
     ensures counts { Asks 0 mutator_in (Counts out.new) (out.new ≡ out.old) h.old.kept result }
 {
     let Some(kept) = h.take(alloc) else {
-        return Answer::bare(10, 0);
+        return Answer::bare(status::EMPTY_HANDLE, 0);
     };
     let answer = match as_mutator(kept.as_ref()) {
         Some(m) => count(m, out),
-        None => Answer::bare(255, 0),
+        None => Answer::bare(status::WRONG_HANDLE, 0),
     };
     h.put_back(kept);
     answer
@@ -208,11 +209,11 @@ pub fn end_facts(alloc: Global, h: &mut Handle, out: &mut EndFacts) -> Answer
     ensures counts { Asks 0 end_in (CountsEnd out.new) (out.new ≡ out.old) h.old.kept result }
 {
     let Some(kept) = h.take(alloc) else {
-        return Answer::bare(10, 0);
+        return Answer::bare(status::EMPTY_HANDLE, 0);
     };
     let answer = match as_end(kept.as_ref()) {
         Some(e) => count_end(e, out),
-        None => Answer::bare(255, 0),
+        None => Answer::bare(status::WRONG_HANDLE, 0),
     };
     h.put_back(kept);
     answer
@@ -245,11 +246,11 @@ pub fn heap_facts(alloc: Global, h: &mut Handle, out: &mut HeapFacts) -> Answer
     ensures counts { Asks 0 heap_in (CountsHeap out.new) (out.new ≡ out.old) h.old.kept result }
 {
     let Some(kept) = h.take(alloc) else {
-        return Answer::bare(10, 0);
+        return Answer::bare(status::EMPTY_HANDLE, 0);
     };
     let answer = match as_heap(kept.as_ref()) {
         Some(heap) => count_heap(heap, out),
-        None => Answer::bare(255, 0),
+        None => Answer::bare(status::WRONG_HANDLE, 0),
     };
     h.put_back(kept);
     answer
@@ -283,11 +284,11 @@ pub fn plan_facts(alloc: Global, h: &mut Handle, out: &mut PlanFacts) -> Answer
     ensures counts { Asks 0 plan_in (CountsPlan out.new) (out.new ≡ out.old) h.old.kept result }
 {
     let Some(kept) = h.take(alloc) else {
-        return Answer::bare(10, 0);
+        return Answer::bare(status::EMPTY_HANDLE, 0);
     };
     let answer = match as_plan(kept.as_ref()) {
         Some(plan) => count_plan(plan, out),
-        None => Answer::bare(255, 0),
+        None => Answer::bare(status::WRONG_HANDLE, 0),
     };
     h.put_back(kept);
     answer

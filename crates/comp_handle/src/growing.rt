@@ -6,6 +6,7 @@ ghost use Rattle.comp_handle.specs.HandleKinds.{growing_in, room_in, tables_in, 
 ghost use Rattle.comp_handle.specs.Keeping.{IsKept};
 ghost use Rattle.comp_handle.specs.Lending.{room_for};
 ghost use Rattle.comp_handle.specs.declared.kept.Kept.TheVariants as kinds;
+ghost use Rattle.comp_handle.specs.Statuses.{wrong_length};
 ghost use Rattle.heap_layout.specs.Heap.{Heap};
 ghost use Rattle.stopped_heap.specs.Growth.{HasGrown, HasHeld, IsGrowthFaultOf, IsGrowthHeldFaultOf};
 ghost use Rattle.stopped_heap.specs.Places.{IsFoundOf};
@@ -18,6 +19,7 @@ use crate::helping::live_words;
 use crate::kept::Kept;
 use crate::kinds::{as_growing, into_growing, into_tables};
 use crate::opening::{Opened, Turned, close, is_full, keep, open, settle};
+use crate::status;
 use heap_layout::{Edition, edition_of};
 use std::alloc::Global;
 use std::sync::Arc;
@@ -54,11 +56,11 @@ pub fn begin_growing(alloc: Global, edition: u32, words: &[u64], out: &mut Handl
     ensures { BeginsGrowing edition words.now out.old.kept out.new.kept result }
 {
     if is_full(alloc, out) {
-        return Answer::bare(11, 0);
+        return Answer::bare(status::NOT_EMPTY, 0);
     }
     match edition_of(edition, true) {
         Some(found) => begin(alloc, found, words, out),
-        None => Answer::bare(19, u64::from(edition)),
+        None => Answer::bare(status::BAD_EDITION, u64::from(edition)),
     }
 }
 
@@ -95,7 +97,10 @@ fn begin_of(tables: Tables, edition: u32, words: &[u64]) -> Turned
 {
     match edition_of(edition, true) {
         Some(found) => begin_by(tables, found, words),
-        None => Turned::stays(Kept::Tables(tables), Answer::bare(19, u64::from(edition))),
+        None => Turned::stays(
+            Kept::Tables(tables),
+            Answer::bare(status::BAD_EDITION, u64::from(edition)),
+        ),
     }
 }
 
@@ -107,10 +112,10 @@ fn begun(kept: Kept, full: bool, edition: u32, words: &[u64]) -> Turned
 {
     let tables = match into_tables(kept) {
         Ok(tables) => tables,
-        Err(kept) => return Turned::stays(kept, Answer::bare(255, 0)),
+        Err(kept) => return Turned::stays(kept, Answer::bare(status::WRONG_HANDLE, 0)),
     };
     if full {
-        return Turned::stays(Kept::Tables(tables), Answer::bare(11, 1));
+        return Turned::stays(Kept::Tables(tables), Answer::bare(status::NOT_EMPTY, 1));
     }
     begin_of(tables, edition, words)
 }
@@ -128,7 +133,7 @@ pub fn begin_growing_lent(
 {
     let full = is_full(alloc, out);
     let Some(Opened { room, kept }) = open(alloc, tables) else {
-        return Answer::bare(10, 0);
+        return Answer::bare(status::EMPTY_HANDLE, 0);
     };
     let turned = begun(kept, full, edition, words);
     settle(tables, out, room, turned)
@@ -156,11 +161,11 @@ fn goes_on(growth: Growth) -> Left
 // There are not as many words as it is of, and it stays as it was.
 fn stays(growth: Growth) -> Left
     ensures kept { result.kept ≡ kinds.Growing growth }
-    ensures answer { result.answer ≡ bare 31 0 }
+    ensures answer { result.answer ≡ bare wrong_length 0 }
 {
     Left {
         kept: Kept::Growing(growth),
-        answer: Answer::bare(31, 0),
+        answer: Answer::bare(status::WRONG_LENGTH, 0),
     }
 }
 
@@ -198,7 +203,7 @@ fn also_of(kept: Kept, words: &[u64], more: &[u64]) -> Left
         Ok(growth) => also(growth, words, more),
         Err(kept) => Left {
             kept,
-            answer: Answer::bare(255, 0),
+            answer: Answer::bare(status::WRONG_HANDLE, 0),
         },
     }
 }
@@ -211,7 +216,7 @@ pub fn grow(alloc: Global, h: &mut Handle, words: &[u64], more: &[u64]) -> Answe
     ensures { Grows words.now more.now h.old.kept h.new.kept result }
 {
     let Some(Opened { room, kept }) = open(alloc, h) else {
-        return Answer::bare(10, 0);
+        return Answer::bare(status::EMPTY_HANDLE, 0);
     };
     let Left { kept, answer } = also_of(kept, words, more);
     close(h, room, kept);
@@ -240,7 +245,7 @@ fn values_of(kept: Kept, words: &[u64], ephemerons: &[u64]) -> Left
         Ok(growth) => values(growth, words, ephemerons),
         Err(kept) => Left {
             kept,
-            answer: Answer::bare(255, 0),
+            answer: Answer::bare(status::WRONG_HANDLE, 0),
         },
     }
 }
@@ -251,7 +256,7 @@ pub fn grow_by_values(alloc: Global, h: &mut Handle, words: &[u64], ephemerons: 
     ensures { GrowsByValues words.now ephemerons.now h.old.kept h.new.kept result }
 {
     let Some(Opened { room, kept }) = open(alloc, h) else {
-        return Answer::bare(10, 0);
+        return Answer::bare(status::EMPTY_HANDLE, 0);
     };
     let Left { kept, answer } = values_of(kept, words, ephemerons);
     close(h, room, kept);
@@ -276,11 +281,11 @@ pub fn keeps(alloc: Global, h: &mut Handle, word: u64) -> Answer
     ensures says { Asks 0 growing_in (SaysKept word) (Unit {0}) h.old.kept result }
 {
     let Some(kept) = h.take(alloc) else {
-        return Answer::bare(10, 0);
+        return Answer::bare(status::EMPTY_HANDLE, 0);
     };
     let answer = match as_growing(kept.as_ref()) {
         Some(growth) => say_kept(growth, word),
-        None => Answer::bare(255, 0),
+        None => Answer::bare(status::WRONG_HANDLE, 0),
     };
     h.put_back(kept);
     answer
@@ -306,18 +311,18 @@ pub fn settle_growing(alloc: Global, h: &mut Handle, survey: &mut Handle) -> Ans
 {
     let full = is_full(alloc, survey);
     let Some(Opened { room, kept }) = open(alloc, h) else {
-        return Answer::bare(10, 0);
+        return Answer::bare(status::EMPTY_HANDLE, 0);
     };
     let growth = match into_growing(kept) {
         Ok(growth) => growth,
         Err(kept) => {
             close(h, room, kept);
-            return Answer::bare(255, 0);
+            return Answer::bare(status::WRONG_HANDLE, 0);
         }
     };
     if full {
         close(h, room, Kept::Growing(growth));
-        return Answer::bare(11, 1);
+        return Answer::bare(status::NOT_EMPTY, 1);
     }
     match found_of(alloc, growth) {
         Ok(found) => {
@@ -327,7 +332,7 @@ pub fn settle_growing(alloc: Global, h: &mut Handle, survey: &mut Handle) -> Ans
         }
         Err(tables) => {
             close(h, room, Kept::Tables(tables));
-            Answer::bare(9, 0)
+            Answer::bare(status::OUT_OF_MEMORY, 0)
         }
     }
 }
@@ -362,14 +367,14 @@ fn given_back(kept: Kept, full: bool) -> Turned
     ensures turns { TurnsKept room_in GivesBack IsNever full kept result.kept result.goes result.answer }
 {
     if full && has_room(&kept) {
-        return Turned::stays(kept, Answer::bare(11, 1));
+        return Turned::stays(kept, Answer::bare(status::NOT_EMPTY, 1));
     }
     match into_room(kept) {
         Ok(tables) => {
             let room = tables.room() as u64;
             Turned::gone(Kept::Tables(tables), room)
         }
-        Err(kept) => Turned::stays(kept, Answer::bare(255, 0)),
+        Err(kept) => Turned::stays(kept, Answer::bare(status::WRONG_HANDLE, 0)),
     }
 }
 
@@ -380,7 +385,7 @@ pub fn return_growing(alloc: Global, h: &mut Handle, tables: &mut Handle) -> Ans
 {
     let full = is_full(alloc, tables);
     let Some(Opened { room, kept }) = open(alloc, h) else {
-        return Answer::bare(10, 0);
+        return Answer::bare(status::EMPTY_HANDLE, 0);
     };
     let turned = given_back(kept, full);
     settle(h, tables, room, turned)

@@ -9,6 +9,7 @@ use crate::answer::Answer;
 use crate::handle::Handle;
 use crate::opening::is_full;
 use crate::resting::keep_found;
+use crate::status;
 use heap_layout::{Edition, edition_of};
 use std::alloc::Global;
 use stopped_heap::{Guarded, Places, SurveyFault};
@@ -105,10 +106,10 @@ pub fn survey_guarded(
     ensures { SurveysGuarded edition words.now roots.now ephemerons.now guarded.old guarded.new lost.old lost.new out.old.kept out.new.kept result }
 {
     if is_full(alloc, out) {
-        return Answer::bare(11, 0);
+        return Answer::bare(status::NOT_EMPTY, 0);
     }
     match edition_of(edition, true) {
         Some(found) => survey_of(alloc, found, words, roots, ephemerons, guarded, out, lost),
-        None => Answer::bare(19, u64::from(edition)),
+        None => Answer::bare(status::BAD_EDITION, u64::from(edition)),
     }
 }

@@ -6,6 +6,7 @@ ghost use Rattle.comp_handle.specs.Keeping.{IsKept};
 ghost use Rattle.comp_handle.specs.HandleKinds.{job_in, Asks, Turns};
 ghost use Rattle.comp_handle.specs.Lending.{IsStillShared};
 ghost use Rattle.comp_handle.specs.Resting.{asked, IsUnsharedIn, Shares, Surveys};
+ghost use Rattle.comp_handle.specs.Statuses.{not_empty, out_of_memory};
 ghost use Rattle.mark_job.specs.Asked.{IsBeginFault, IsMarkedOf, IsSmall};
 ghost use Rattle.stopped_heap.specs.Reached.{IsFaultOf};
 
@@ -14,6 +15,7 @@ use crate::handle::Handle;
 use crate::kept::Kept;
 use crate::kinds::{as_job, into_job};
 use crate::opening::{Opened, close, is_full, keep, open};
+use crate::status;
 use heap_layout::{Edition, edition_of};
 use mark_job::{Ended, Help, Job};
 use std::alloc::Global;
@@ -76,11 +78,11 @@ pub fn begin_job(
     ensures { BeginsJob edition words.now roots.now job.old.kept job.new.kept result }
 {
     if is_full(alloc, job) {
-        return Answer::bare(11, 0);
+        return Answer::bare(status::NOT_EMPTY, 0);
     }
     match edition_of(edition, true) {
         Some(found) => begin(alloc, found, words, roots, job),
-        None => Answer::bare(19, u64::from(edition)),
+        None => Answer::bare(status::BAD_EDITION, u64::from(edition)),
     }
 }
 
@@ -88,14 +90,14 @@ pub fn begin_job(
 fn share(job: &Arc<Job>, full: bool) -> Result<Arc<Job>, Answer>
     ensures same { IfOk result (λ own. own.value ≡ job.now.value) }
     ensures free { IfOk result (λ _. IsFalse full) }
-    ensures none { IfErr result (λ a. (IsTrue full × (a ≡ bare 11 1)) ⊎ (IsFalse full × (a ≡ bare 9 0))) }
+    ensures none { IfErr result (λ a. (IsTrue full × (a ≡ bare not_empty 1)) ⊎ (IsFalse full × (a ≡ bare out_of_memory 0))) }
 {
     if full {
-        return Err(Answer::bare(11, 1));
+        return Err(Answer::bare(status::NOT_EMPTY, 1));
     }
     match Arc::try_clone(job) {
         Ok(own) => Ok(own),
-        Err(_) => Err(Answer::bare(9, 0)),
+        Err(_) => Err(Answer::bare(status::OUT_OF_MEMORY, 0)),
     }
 }
 
@@ -107,11 +109,11 @@ fn share_of(alloc: Global, h: &mut Handle, full: bool) -> Result<Arc<Job>, Answe
     ensures none { IfErr result (IsUnsharedIn job_in full h.old.kept) }
 {
     let Some(kept) = h.take(alloc) else {
-        return Err(Answer::bare(10, 0));
+        return Err(Answer::bare(status::EMPTY_HANDLE, 0));
     };
     let own = match as_job(kept.as_ref()) {
         Some(job) => share(job, full),
-        None => Err(Answer::bare(255, 0)),
+        None => Err(Answer::bare(status::WRONG_HANDLE, 0)),
     };
     h.put_back(kept);
     own
@@ -129,7 +131,7 @@ pub fn share_job(alloc: Global, h: &mut Handle, other: &mut Handle) -> Answer
             if keep(alloc, other, Kept::Job(own)) {
                 Answer::done(0)
             } else {
-                Answer::bare(9, 0)
+                Answer::bare(status::OUT_OF_MEMORY, 0)
             }
         }
         Err(answer) => answer,
@@ -155,11 +157,11 @@ pub fn help_job(alloc: Global, h: &mut Handle, who: u64) -> Answer
     ensures helps { Asks 0 job_in Helps (Unit {0}) h.old.kept result }
 {
     let Some(kept) = h.take(alloc) else {
-        return Answer::bare(10, 0);
+        return Answer::bare(status::EMPTY_HANDLE, 0);
     };
     let answer = match as_job(kept.as_ref()) {
         Some(job) => help(alloc, job, who),
-        None => Answer::bare(255, 0),
+        None => Answer::bare(status::WRONG_HANDLE, 0),
     };
     h.put_back(kept);
     answer
@@ -185,21 +187,21 @@ fn sole(kept: Kept, full: bool) -> Result<Job, Left>
         Err(kept) => {
             return Err(Left {
                 kept,
-                answer: Answer::bare(255, 0),
+                answer: Answer::bare(status::WRONG_HANDLE, 0),
             });
         }
     };
     if full {
         return Err(Left {
             kept: Kept::Job(job),
-            answer: Answer::bare(11, 1),
+            answer: Answer::bare(status::NOT_EMPTY, 1),
         });
     }
     match Arc::try_unwrap(job) {
         Ok(job) => Ok(job),
         Err(job) => Err(Left {
             kept: Kept::Job(job),
-            answer: Answer::bare(28, 0),
+            answer: Answer::bare(status::STILL_SHARED, 0),
         }),
     }
 }
@@ -254,7 +256,7 @@ pub fn finish_job(alloc: Global, job: &mut Handle, survey: &mut Handle) -> Answe
 {
     let full = is_full(alloc, survey);
     let Some(Opened { room, kept }) = open(alloc, job) else {
-        return Answer::bare(10, 0);
+        return Answer::bare(status::EMPTY_HANDLE, 0);
     };
     match sole(kept, full) {
         Ok(own) => end(alloc, own, room, survey),

@@ -11,6 +11,7 @@ use crate::handle::Handle;
 use crate::kept::Kept;
 use crate::kinds::as_heap;
 use crate::opening::{is_full, keep};
+use crate::status;
 use heap_layout::{Counted, LayoutFault, MarkedHeap, OutOfMemory, read_large_image};
 use std::alloc::Global;
 
@@ -46,7 +47,7 @@ pub fn read_image(alloc: Global, bytes: &[u8], out: &mut Handle) -> Answer
     ensures { ReadsImage bytes.now out.old.kept out.new.kept result }
 {
     if is_full(alloc, out) {
-        return Answer::bare(11, 0);
+        return Answer::bare(status::NOT_EMPTY, 0);
     }
     read_into(alloc, bytes, out)
 }
@@ -78,11 +79,11 @@ fn copy_image(alloc: Global, heap: &MarkedHeap, out: &mut [u8]) -> Answer
 {
     let size = size_of(heap);
     if (out.len() as u64) < size {
-        return Answer::bare(22, size);
+        return Answer::bare(status::TOO_SHORT, size);
     }
     match image_of(alloc, heap, size as usize) {
         Ok(image) => copy_bytes(&image, out),
-        Err(_) => Answer::bare(9, 0),
+        Err(_) => Answer::bare(status::OUT_OF_MEMORY, 0),
     }
 }
 
@@ -93,11 +94,11 @@ pub fn write_image(alloc: Global, h: &mut Handle, out: &mut [u8]) -> Answer
     ensures copies { Asks 0 heap_in (WritesImage out.old out.new) (out.new ≡ out.old) h.old.kept result }
 {
     let Some(kept) = h.take(alloc) else {
-        return Answer::bare(10, 0);
+        return Answer::bare(status::EMPTY_HANDLE, 0);
     };
     let answer = match as_heap(kept.as_ref()) {
         Some(heap) => copy_image(alloc, heap, out),
-        None => Answer::bare(255, 0),
+        None => Answer::bare(status::WRONG_HANDLE, 0),
     };
     h.put_back(kept);
     answer

@@ -7,6 +7,7 @@ use crate::handle::Handle;
 use crate::kept::Kept;
 use crate::kinds::{into_crew, into_mutator};
 use crate::opening::{Opened, close, open};
+use crate::status;
 use std::alloc::Global;
 
 /// Hands the mutator that a handle keeps back to its crew, which another handle keeps. The mutator's handle is empty
@@ -18,13 +19,13 @@ pub fn give_member(alloc: Global, crew: &mut Handle, h: &mut Handle) -> Answer
     ensures { Gives crew.old.kept crew.new.kept h.old.kept h.new.kept result }
 {
     let Some(Opened { room, kept }) = open(alloc, crew) else {
-        return Answer::bare(10, 0);
+        return Answer::bare(status::EMPTY_HANDLE, 0);
     };
     let mut bench = match into_crew(kept) {
         Ok(bench) => bench,
         Err(kept) => {
             close(crew, room, kept);
-            return Answer::bare(255, 0);
+            return Answer::bare(status::WRONG_HANDLE, 0);
         }
     };
     let Some(
@@ -35,14 +36,14 @@ pub fn give_member(alloc: Global, crew: &mut Handle, h: &mut Handle) -> Answer
     ) = open(alloc, h)
     else {
         close(crew, room, Kept::Crew(bench));
-        return Answer::bare(10, 1);
+        return Answer::bare(status::EMPTY_HANDLE, 1);
     };
     let m = match into_mutator(own) {
         Ok(m) => m,
         Err(own) => {
             close(crew, room, Kept::Crew(bench));
             close(h, seat, own);
-            return Answer::bare(255, 1);
+            return Answer::bare(status::WRONG_HANDLE, 1);
         }
     };
     let given = bench.give(m);
@@ -54,7 +55,7 @@ pub fn give_member(alloc: Global, crew: &mut Handle, h: &mut Handle) -> Answer
         }
         Err(m) => {
             close(h, seat, Kept::Mutator(m));
-            Answer::bare(17, 0)
+            Answer::bare(status::OTHER_CREW, 0)
         }
     }
 }
@@ -68,13 +69,13 @@ pub fn meet_members(alloc: Global, h: &mut Handle, other: &mut Handle) -> Answer
     ensures { Brings h.old.kept other.old.kept h.new.kept other.new.kept result }
 {
     let Some(Opened { room, kept }) = open(alloc, h) else {
-        return Answer::bare(10, 0);
+        return Answer::bare(status::EMPTY_HANDLE, 0);
     };
     let mut m = match into_mutator(kept) {
         Ok(m) => m,
         Err(kept) => {
             close(h, room, kept);
-            return Answer::bare(255, 0);
+            return Answer::bare(status::WRONG_HANDLE, 0);
         }
     };
     let Some(
@@ -85,14 +86,14 @@ pub fn meet_members(alloc: Global, h: &mut Handle, other: &mut Handle) -> Answer
     ) = open(alloc, other)
     else {
         close(h, room, Kept::Mutator(m));
-        return Answer::bare(10, 1);
+        return Answer::bare(status::EMPTY_HANDLE, 1);
     };
     let mut o = match into_mutator(own) {
         Ok(o) => o,
         Err(own) => {
             close(h, room, Kept::Mutator(m));
             close(other, seat, own);
-            return Answer::bare(255, 1);
+            return Answer::bare(status::WRONG_HANDLE, 1);
         }
     };
     let met = m.meet(&mut o);
@@ -101,6 +102,6 @@ pub fn meet_members(alloc: Global, h: &mut Handle, other: &mut Handle) -> Answer
     if met {
         Answer::done(0)
     } else {
-        Answer::bare(17, 0)
+        Answer::bare(status::OTHER_CREW, 0)
     }
 }

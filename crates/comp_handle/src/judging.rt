@@ -11,6 +11,7 @@ ghost use Rattle.comp_handle.specs.HandleKinds.{plan_in, Asks};
 use crate::answer::Answer;
 use crate::handle::Handle;
 use crate::kinds::as_plan;
+use crate::status;
 use comp_audit::{
     AuditFault, Dump, DumpFault, Verdict, audit, audit_whole, read_large_dump, read_words,
 };
@@ -24,15 +25,19 @@ fn found(fault: AuditFault) -> Answer
     ensures { result ≡ of_audit fault }
 {
     match fault {
-        AuditFault::WrongWord(a) => Answer::bare(65, a),
-        AuditFault::LooseReference(a) => Answer::bare(66, a),
-        AuditFault::BadEntry(p, i) => Answer::two(67, p, i.min(4_294_967_295) as u32),
-        AuditFault::StampRepeated(stamp) => Answer::bare(68, stamp),
-        AuditFault::StampMissing(stamp) => Answer::bare(69, stamp),
-        AuditFault::WrongTotal => Answer::bare(70, 0),
-        AuditFault::BuildUnclaimed(p) => Answer::bare(71, p),
-        AuditFault::WrongHead => Answer::bare(72, 0),
-        AuditFault::PageMissing(p) => Answer::bare(73, p),
+        AuditFault::WrongWord(a) => Answer::bare(status::WRONG_WORD, a),
+        AuditFault::LooseReference(a) => Answer::bare(status::LOOSE_REFERENCE, a),
+        AuditFault::BadEntry(p, i) => Answer::two(
+            status::BAD_ENTRY,
+            p,
+            i.min(4_294_967_295) as u32,
+        ),
+        AuditFault::StampRepeated(stamp) => Answer::bare(status::STAMP_REPEATED, stamp),
+        AuditFault::StampMissing(stamp) => Answer::bare(status::STAMP_MISSING, stamp),
+        AuditFault::WrongTotal => Answer::bare(status::WRONG_TOTAL, 0),
+        AuditFault::BuildUnclaimed(p) => Answer::bare(status::BUILD_UNCLAIMED, p),
+        AuditFault::WrongHead => Answer::bare(status::WRONG_HEAD, 0),
+        AuditFault::PageMissing(p) => Answer::bare(status::PAGE_MISSING, p),
     }
 }
 
@@ -41,12 +46,12 @@ pub(crate) fn unread(fault: DumpFault) -> Answer
     ensures { result ≡ of_dump fault }
 {
     match fault {
-        DumpFault::Truncated => Answer::bare(97, 0),
-        DumpFault::TrailingBytes => Answer::bare(98, 0),
-        DumpFault::BadMagic => Answer::bare(99, 0),
-        DumpFault::BadField => Answer::bare(100, 0),
-        DumpFault::OutOfMemory => Answer::bare(9, 0),
-        DumpFault::Device => Answer::bare(9, 0),
+        DumpFault::Truncated => Answer::bare(status::FILE_TRUNCATED, 0),
+        DumpFault::TrailingBytes => Answer::bare(status::FILE_TRAILING, 0),
+        DumpFault::BadMagic => Answer::bare(status::FILE_BAD_MAGIC, 0),
+        DumpFault::BadField => Answer::bare(status::FILE_BAD_FIELD, 0),
+        DumpFault::OutOfMemory => Answer::bare(status::OUT_OF_MEMORY, 0),
+        DumpFault::Device => Answer::bare(status::OUT_OF_MEMORY, 0),
     }
 }
 
@@ -131,7 +136,7 @@ fn judge_by(alloc: Global, plan: &Plan, bytes: &[u8], options: u32) -> Answer
     ensures { JudgesBy options bytes.now plan.now result }
 {
     if options > 3 {
-        return Answer::bare(32, u64::from(options));
+        return Answer::bare(status::BAD_OPTIONS, u64::from(options));
     }
     judge(alloc, plan, bytes, is_whole(options), is_of_words(options))
 }
@@ -151,11 +156,11 @@ pub fn judge_dump(alloc: Global, h: &mut Handle, bytes: &[u8], options: u32) -> 
     ensures judges { Asks 0 plan_in (JudgesBy options bytes.now) (Unit {0}) h.old.kept result }
 {
     let Some(kept) = h.take(alloc) else {
-        return Answer::bare(10, 0);
+        return Answer::bare(status::EMPTY_HANDLE, 0);
     };
     let answer = match as_plan(kept.as_ref()) {
         Some(plan) => judge_shared(alloc, plan, bytes, options),
-        None => Answer::bare(255, 0),
+        None => Answer::bare(status::WRONG_HANDLE, 0),
     };
     h.put_back(kept);
     answer

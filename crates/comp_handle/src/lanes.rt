@@ -6,6 +6,7 @@ ghost use Rattle.comp_handle.specs.HandleKinds.{lane_in, Asks};
 ghost use Rattle.comp_handle.specs.Lanes.{of_join, BeginsLane, BeginsLaneOf, GivesInLane, IsEmptyLane, JoinsLanes, LooksInLane, MeetsInLane, SharesLane, TakesInLane, WholesLane};
 ghost use Rattle.comp_handle.specs.Looks.{CopiesWaiting, SaysWaiting};
 ghost use Rattle.comp_handle.specs.Resting.{IsUnsharedIn};
+ghost use Rattle.comp_handle.specs.Statuses.{not_empty, out_of_memory};
 ghost use Rattle.heap_layout.specs.Limits.{most_words};
 ghost use Rattle.stopped_heap.specs.Lanes.{IsBeginFault};
 
@@ -16,6 +17,7 @@ use crate::kinds::{as_lane, into_lane};
 use crate::looking::{unlooked, unmet};
 use crate::looks::say_waiting;
 use crate::opening::{Opened, close, is_full, keep, open};
+use crate::status;
 use heap_layout::{Edition, edition_of};
 use std::alloc::Global;
 use stopped_heap::{JoinFault, Lane, SurveyFault};
@@ -46,7 +48,7 @@ fn begin(alloc: Global, n: u32, edition: Edition, count: u64, out: &mut Handle) 
     ensures { BeginsLaneOf n count out.new.kept result edition }
 {
     if edition.max_object_words() < edition.max_words() {
-        return Answer::bare(19, u64::from(n));
+        return Answer::bare(status::BAD_EDITION, u64::from(n));
     }
     match lane_of(alloc, edition, count) {
         Ok(lane) => {
@@ -66,11 +68,11 @@ pub fn begin_lane(alloc: Global, edition: u32, count: u64, out: &mut Handle) -> 
     ensures { BeginsLane edition count out.old.kept out.new.kept result }
 {
     if is_full(alloc, out) {
-        return Answer::bare(11, 0);
+        return Answer::bare(status::NOT_EMPTY, 0);
     }
     match edition_of(edition, true) {
         Some(found) => begin(alloc, edition, found, count, out),
-        None => Answer::bare(19, u64::from(edition)),
+        None => Answer::bare(status::BAD_EDITION, u64::from(edition)),
     }
 }
 
@@ -78,14 +80,14 @@ pub fn begin_lane(alloc: Global, edition: u32, count: u64, out: &mut Handle) -> 
 fn share(alloc: Global, lane: &Lane, full: bool) -> Result<Lane, Answer>
     ensures empty { IfOk result (IsEmptyLane lane.now.own.edition lane.now.own.count) }
     ensures free { IfOk result (λ _. IsFalse full) }
-    ensures none { IfErr result (λ a. (IsTrue full × (a ≡ bare 11 1)) ⊎ (IsFalse full × (a ≡ bare 9 0))) }
+    ensures none { IfErr result (λ a. (IsTrue full × (a ≡ bare not_empty 1)) ⊎ (IsFalse full × (a ≡ bare out_of_memory 0))) }
 {
     if full {
-        return Err(Answer::bare(11, 1));
+        return Err(Answer::bare(status::NOT_EMPTY, 1));
     }
     match lane.share(alloc) {
         Ok(own) => Ok(own),
-        Err(_) => Err(Answer::bare(9, 0)),
+        Err(_) => Err(Answer::bare(status::OUT_OF_MEMORY, 0)),
     }
 }
 
@@ -97,11 +99,11 @@ fn share_of(alloc: Global, h: &mut Handle, full: bool) -> Result<Lane, Answer>
     ensures none { IfErr result (IsUnsharedIn lane_in full h.old.kept) }
 {
     let Some(kept) = h.take(alloc) else {
-        return Err(Answer::bare(10, 0));
+        return Err(Answer::bare(status::EMPTY_HANDLE, 0));
     };
     let own = match as_lane(kept.as_ref()) {
         Some(lane) => share(alloc, lane, full),
-        None => Err(Answer::bare(255, 0)),
+        None => Err(Answer::bare(status::WRONG_HANDLE, 0)),
     };
     h.put_back(kept);
     own
@@ -119,7 +121,7 @@ pub fn share_lane(alloc: Global, h: &mut Handle, other: &mut Handle) -> Answer
             if keep(alloc, other, Kept::Lane(own)) {
                 Answer::done(0)
             } else {
-                Answer::bare(9, 0)
+                Answer::bare(status::OUT_OF_MEMORY, 0)
             }
         }
         Err(answer) => answer,
@@ -140,11 +142,11 @@ pub fn waiting_lane(alloc: Global, h: &mut Handle, indices: &mut [u64]) -> Answe
     ensures copies { Asks 0 lane_in (λ lane a. CopiesWaiting indices.old indices.new lane.own a) (indices.new ≡ indices.old) h.old.kept result }
 {
     let Some(kept) = h.take(alloc) else {
-        return Answer::bare(10, 0);
+        return Answer::bare(status::EMPTY_HANDLE, 0);
     };
     let answer = match as_lane(kept.as_ref()) {
         Some(lane) => copy(lane, indices),
-        None => Answer::bare(255, 0),
+        None => Answer::bare(status::WRONG_HANDLE, 0),
     };
     h.put_back(kept);
     answer
@@ -156,13 +158,13 @@ pub fn meet_lane(alloc: Global, h: &mut Handle, values: &[u64]) -> Answer
     ensures { MeetsInLane values.now h.old.kept h.new.kept result }
 {
     let Some(Opened { room, kept }) = open(alloc, h) else {
-        return Answer::bare(10, 0);
+        return Answer::bare(status::EMPTY_HANDLE, 0);
     };
     let lane = match into_lane(kept) {
         Ok(lane) => lane,
         Err(kept) => {
             close(h, room, kept);
-            return Answer::bare(255, 0);
+            return Answer::bare(status::WRONG_HANDLE, 0);
         }
     };
     match lane.meet(values) {
@@ -181,13 +183,13 @@ pub fn look_lane(alloc: Global, h: &mut Handle, rows: &[u64]) -> Answer
     ensures { LooksInLane rows.now h.old.kept h.new.kept result }
 {
     let Some(Opened { room, kept }) = open(alloc, h) else {
-        return Answer::bare(10, 0);
+        return Answer::bare(status::EMPTY_HANDLE, 0);
     };
     let lane = match into_lane(kept) {
         Ok(lane) => lane,
         Err(kept) => {
             close(h, room, kept);
-            return Answer::bare(255, 0);
+            return Answer::bare(status::WRONG_HANDLE, 0);
         }
     };
     match lane.look_rows(rows) {
@@ -206,13 +208,13 @@ pub fn take_lane(alloc: Global, h: &mut Handle, indices: &[u64]) -> Answer
     ensures { TakesInLane indices.now h.old.kept h.new.kept result }
 {
     let Some(Opened { room, kept }) = open(alloc, h) else {
-        return Answer::bare(10, 0);
+        return Answer::bare(status::EMPTY_HANDLE, 0);
     };
     let lane = match into_lane(kept) {
         Ok(lane) => lane,
         Err(kept) => {
             close(h, room, kept);
-            return Answer::bare(255, 0);
+            return Answer::bare(status::WRONG_HANDLE, 0);
         }
     };
     match lane.take(indices) {
@@ -231,13 +233,13 @@ pub fn give_lane(alloc: Global, h: &mut Handle, indices: &mut [u64]) -> Answer
     ensures { GivesInLane indices.old indices.new h.old.kept h.new.kept result }
 {
     let Some(Opened { room, kept }) = open(alloc, h) else {
-        return Answer::bare(10, 0);
+        return Answer::bare(status::EMPTY_HANDLE, 0);
     };
     let lane = match into_lane(kept) {
         Ok(lane) => lane,
         Err(kept) => {
             close(h, room, kept);
-            return Answer::bare(255, 0);
+            return Answer::bare(status::WRONG_HANDLE, 0);
         }
     };
     let (lane, many) = lane.give(indices);
@@ -250,9 +252,9 @@ fn unjoined(fault: JoinFault) -> Answer
     ensures { result ≡ of_join fault }
 {
     match fault {
-        JoinFault::OtherHeap => Answer::bare(213, 0),
-        JoinFault::Overlap(i) => Answer::bare(135, i),
-        JoinFault::OutOfMemory => Answer::bare(9, 0),
+        JoinFault::OtherHeap => Answer::bare(status::OTHER_HEAP, 0),
+        JoinFault::Overlap(i) => Answer::bare(status::OVERLAP, i),
+        JoinFault::OutOfMemory => Answer::bare(status::OUT_OF_MEMORY, 0),
     }
 }
 
@@ -262,13 +264,13 @@ pub fn join_lanes(alloc: Global, h: &mut Handle, other: &mut Handle) -> Answer
     ensures { JoinsLanes h.old.kept h.new.kept other.old.kept other.new.kept result }
 {
     let Some(Opened { room, kept }) = open(alloc, h) else {
-        return Answer::bare(10, 0);
+        return Answer::bare(status::EMPTY_HANDLE, 0);
     };
     let lane = match into_lane(kept) {
         Ok(lane) => lane,
         Err(kept) => {
             close(h, room, kept);
-            return Answer::bare(255, 0);
+            return Answer::bare(status::WRONG_HANDLE, 0);
         }
     };
     let Some(
@@ -279,14 +281,14 @@ pub fn join_lanes(alloc: Global, h: &mut Handle, other: &mut Handle) -> Answer
     ) = open(alloc, other)
     else {
         close(h, room, Kept::Lane(lane));
-        return Answer::bare(10, 1);
+        return Answer::bare(status::EMPTY_HANDLE, 1);
     };
     let second = match into_lane(other_kept) {
         Ok(second) => second,
         Err(other_kept) => {
             close(other, other_room, other_kept);
             close(h, room, Kept::Lane(lane));
-            return Answer::bare(255, 1);
+            return Answer::bare(status::WRONG_HANDLE, 1);
         }
     };
     drop(other_room);
@@ -308,18 +310,18 @@ pub fn whole_lane(alloc: Global, lane: &mut Handle, looks: &mut Handle) -> Answe
 {
     let full = is_full(alloc, looks);
     let Some(Opened { room, kept }) = open(alloc, lane) else {
-        return Answer::bare(10, 0);
+        return Answer::bare(status::EMPTY_HANDLE, 0);
     };
     let own = match into_lane(kept) {
         Ok(own) => own,
         Err(kept) => {
             close(lane, room, kept);
-            return Answer::bare(255, 0);
+            return Answer::bare(status::WRONG_HANDLE, 0);
         }
     };
     if full {
         close(lane, room, Kept::Lane(own));
-        return Answer::bare(11, 1);
+        return Answer::bare(status::NOT_EMPTY, 1);
     }
     match own.whole() {
         Ok(whole) => {
@@ -327,6 +329,6 @@ pub fn whole_lane(alloc: Global, lane: &mut Handle, looks: &mut Handle) -> Answe
             close(looks, room, Kept::Looks(whole));
             answer
         }
-        Err(missing) => Answer::bare(212, missing.0),
+        Err(missing) => Answer::bare(status::MISSING_OBJECT, missing.0),
     }
 }

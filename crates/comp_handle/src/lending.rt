@@ -13,6 +13,7 @@ use crate::handle::Handle;
 use crate::kept::Kept;
 use crate::kinds::{into_survey, into_tables};
 use crate::opening::{Opened, Turned, is_full, keep, open, settle};
+use crate::status;
 use heap_layout::{Edition, edition_of};
 use std::alloc::Global;
 use std::sync::Arc;
@@ -24,15 +25,15 @@ pub fn reserve_tables(alloc: Global, words: u64, tables: &mut Handle) -> Answer
     ensures { Fills 0 (Reserves words) (Unit {0}) tables.old.kept tables.new.kept result }
 {
     if is_full(alloc, tables) {
-        return Answer::bare(11, 0);
+        return Answer::bare(status::NOT_EMPTY, 0);
     }
     let Ok(made) = Tables::reserve(alloc, words as usize) else {
-        return Answer::bare(9, 0);
+        return Answer::bare(status::OUT_OF_MEMORY, 0);
     };
     if keep(alloc, tables, Kept::Tables(made)) {
         Answer::done(0)
     } else {
-        Answer::bare(9, 0)
+        Answer::bare(status::OUT_OF_MEMORY, 0)
     }
 }
 
@@ -66,7 +67,7 @@ fn collect_by(
 {
     match edition_of(edition, true) {
         Some(found) => collect_of(tables, found, words, roots, to),
-        None => Answer::bare(19, u64::from(edition)),
+        None => Answer::bare(status::BAD_EDITION, u64::from(edition)),
     }
 }
 
@@ -84,11 +85,11 @@ pub fn collect_lent(
     ensures collects { Asks 0 tables_in (CollectsLent edition words.now roots.old roots.new to.old to.new) ((roots.new ≡ roots.old) × (to.new ≡ to.old)) h.old.kept result }
 {
     let Some(mut kept) = h.take(alloc) else {
-        return Answer::bare(10, 0);
+        return Answer::bare(status::EMPTY_HANDLE, 0);
     };
     let answer = match kept.as_mut() {
         Kept::Tables(tables) => collect_by(tables, edition, words, roots, to),
-        _ => Answer::bare(255, 0),
+        _ => Answer::bare(status::WRONG_HANDLE, 0),
     };
     h.put_back(kept);
     answer
@@ -117,11 +118,11 @@ fn collect_home(tables: &mut Tables, edition: u32, words: &mut [u64], roots: &mu
 {
     match edition_of(edition, true) {
         Some(found) => collect_within(tables, found, words, roots),
-        None => Answer::bare(19, u64::from(edition)),
+        None => Answer::bare(status::BAD_EDITION, u64::from(edition)),
     }
 }
 
-/// The same within the words, with no second memory.
+/// Collects like `collect_in_place`, by the tables that a handle keeps, with no memory, as `collect_lent` does.
 pub fn collect_in_place_lent(
     alloc: Global,
     h: &mut Handle,
@@ -133,11 +134,11 @@ pub fn collect_in_place_lent(
     ensures collects { Asks 0 tables_in (CollectsLentInPlace edition words.old words.new roots.old roots.new) ((roots.new ≡ roots.old) × (words.new ≡ words.old)) h.old.kept result }
 {
     let Some(mut kept) = h.take(alloc) else {
-        return Answer::bare(10, 0);
+        return Answer::bare(status::EMPTY_HANDLE, 0);
     };
     let answer = match kept.as_mut() {
         Kept::Tables(tables) => collect_home(tables, edition, words, roots),
-        _ => Answer::bare(255, 0),
+        _ => Answer::bare(status::WRONG_HANDLE, 0),
     };
     h.put_back(kept);
     answer
@@ -199,7 +200,10 @@ fn survey_by(alloc: Global, tables: Tables, edition: u32, words: &[u64], roots: 
 {
     match edition_of(edition, true) {
         Some(found) => survey_of(alloc, tables, found, words, roots),
-        None => Turned::stays(Kept::Tables(tables), Answer::bare(19, u64::from(edition))),
+        None => Turned::stays(
+            Kept::Tables(tables),
+            Answer::bare(status::BAD_EDITION, u64::from(edition)),
+        ),
     }
 }
 
@@ -218,10 +222,10 @@ fn surveyed(
 {
     let tables = match into_tables(kept) {
         Ok(tables) => tables,
-        Err(kept) => return Turned::stays(kept, Answer::bare(255, 0)),
+        Err(kept) => return Turned::stays(kept, Answer::bare(status::WRONG_HANDLE, 0)),
     };
     if full {
-        return Turned::stays(Kept::Tables(tables), Answer::bare(11, 1));
+        return Turned::stays(Kept::Tables(tables), Answer::bare(status::NOT_EMPTY, 1));
     }
     survey_by(alloc, tables, edition, words, roots)
 }
@@ -242,7 +246,7 @@ pub fn survey_lent(
 {
     let full = is_full(alloc, survey);
     let Some(Opened { room, kept }) = open(alloc, tables) else {
-        return Answer::bare(10, 0);
+        return Answer::bare(status::EMPTY_HANDLE, 0);
     };
     let turned = surveyed(alloc, kept, full, edition, words, roots);
     settle(tables, survey, room, turned)
@@ -256,10 +260,10 @@ fn returned(kept: Kept, full: bool) -> Turned
 {
     let survey = match into_survey(kept) {
         Ok(survey) => survey,
-        Err(kept) => return Turned::stays(kept, Answer::bare(255, 0)),
+        Err(kept) => return Turned::stays(kept, Answer::bare(status::WRONG_HANDLE, 0)),
     };
     if full {
-        return Turned::stays(Kept::Survey(survey), Answer::bare(11, 1));
+        return Turned::stays(Kept::Survey(survey), Answer::bare(status::NOT_EMPTY, 1));
     }
     match Arc::try_unwrap(survey) {
         Ok(places) => {
@@ -267,7 +271,7 @@ fn returned(kept: Kept, full: bool) -> Turned
             let room = tables.room() as u64;
             Turned::gone(Kept::Tables(tables), room)
         }
-        Err(survey) => Turned::stays(Kept::Survey(survey), Answer::bare(28, 0)),
+        Err(survey) => Turned::stays(Kept::Survey(survey), Answer::bare(status::STILL_SHARED, 0)),
     }
 }
 
@@ -279,7 +283,7 @@ pub fn return_tables(alloc: Global, survey: &mut Handle, tables: &mut Handle) ->
 {
     let full = is_full(alloc, tables);
     let Some(Opened { room, kept }) = open(alloc, survey) else {
-        return Answer::bare(10, 0);
+        return Answer::bare(status::EMPTY_HANDLE, 0);
     };
     let turned = returned(kept, full);
     settle(survey, tables, room, turned)

@@ -1,4 +1,20 @@
 //! Handles that C keeps, and what is done by them. A handle is empty, or the pointer of a box.
+//!
+//! The modules, in the order in which to read them:
+//!
+//! - `answer`, `status`: what a call is answered.
+//! - `parts`, `kept`, `handle`, `kinds`, `opening`: the box of a handle, and what is kept there, by its kind.
+//! - `making`, `imaging`: marked heaps and images.
+//! - `turning`, `planning`: the life of a heap from handle to handle, and its plan.
+//! - `crewing`, `joining`, `calling`, `seeing`: a crew, its mutators, and their calls.
+//! - `copying`, `facts`, `ending`, `settling`: roots, counts, and what is asked of a finished cycle.
+//! - `sizes`, `dumping`, `judging`, `telling`, `moves`: dumps and verdicts.
+//! - `resting`, `lending`, `pinning`, `by_bits`: a heap at rest, collected and surveyed.
+//! - `young`, `raising`: its young collections, and a watermark that goes up with none.
+//! - `helping`, `growing`, `guarding`: its marking by several threads, surveys that grow, and guardians.
+//! - `looks`, `looking`, `lanes`: its marking by looks while threads go on, by one marker and several.
+//! - `marker`, `marking`: its marking by many threads, by words that are lent.
+//! - `pages`, `paging`, `touching`: its slide by first touch.
 #![tactic(auto)]
 
 mod answer;
@@ -32,10 +48,12 @@ mod paging;
 mod parts;
 mod pinning;
 mod planning;
+mod raising;
 mod resting;
 mod seeing;
 mod settling;
 mod sizes;
+mod status;
 mod telling;
 mod touching;
 mod turning;
@@ -121,6 +139,7 @@ pub use pinning::collect_pinned;
 pub use planning::forward_plan;
 pub use planning::plan_page;
 pub use planning::share_plan;
+pub use raising::raise_old;
 pub use resting::SurveyFacts;
 pub use resting::collect;
 pub use resting::collect_in_place;

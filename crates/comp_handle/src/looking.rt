@@ -9,6 +9,7 @@ use crate::kept::Kept;
 use crate::kinds::into_looks;
 use crate::looks::say_waiting;
 use crate::opening::{Opened, close, open};
+use crate::status;
 use std::alloc::Global;
 use stopped_heap::{LookFault, MeetFault};
 
@@ -17,14 +18,14 @@ pub(crate) fn unlooked(fault: LookFault) -> Answer
     ensures { result ≡ of_look fault }
 {
     match fault {
-        LookFault::NoSuchObject => Answer::bare(210, 0),
-        LookFault::ShortRun(n) => Answer::bare(22, n),
-        LookFault::ObjectTooLong(i) => Answer::bare(35, i),
-        LookFault::ObjectPastEnd(i) => Answer::bare(34, i),
-        LookFault::Overlap(i) => Answer::bare(135, i),
-        LookFault::BadReference(i) => Answer::bare(131, i),
-        LookFault::BadWeak(i) => Answer::bare(45, i),
-        LookFault::OutOfMemory => Answer::bare(9, 0),
+        LookFault::NoSuchObject => Answer::bare(status::NO_SUCH_OBJECT, 0),
+        LookFault::ShortRun(n) => Answer::bare(status::TOO_SHORT, n),
+        LookFault::ObjectTooLong(i) => Answer::bare(status::OBJECT_TOO_LONG, i),
+        LookFault::ObjectPastEnd(i) => Answer::bare(status::OBJECT_PAST_END, i),
+        LookFault::Overlap(i) => Answer::bare(status::OVERLAP, i),
+        LookFault::BadReference(i) => Answer::bare(status::BAD_REFERENCE, i),
+        LookFault::BadWeak(i) => Answer::bare(status::BAD_WEAK, i),
+        LookFault::OutOfMemory => Answer::bare(status::OUT_OF_MEMORY, 0),
     }
 }
 
@@ -33,8 +34,8 @@ pub(crate) fn unmet(fault: MeetFault) -> Answer
     ensures { result ≡ of_meet fault }
 {
     match fault {
-        MeetFault::BadValue(k) => Answer::bare(38, k),
-        MeetFault::OutOfMemory => Answer::bare(9, 0),
+        MeetFault::BadValue(k) => Answer::bare(status::BAD_ROOT, k),
+        MeetFault::OutOfMemory => Answer::bare(status::OUT_OF_MEMORY, 0),
     }
 }
 
@@ -45,13 +46,13 @@ pub fn look_rows(alloc: Global, h: &mut Handle, rows: &[u64]) -> Answer
     ensures { LooksAtRows rows.now h.old.kept h.new.kept result }
 {
     let Some(Opened { room, kept }) = open(alloc, h) else {
-        return Answer::bare(10, 0);
+        return Answer::bare(status::EMPTY_HANDLE, 0);
     };
     let looks = match into_looks(kept) {
         Ok(looks) => looks,
         Err(kept) => {
             close(h, room, kept);
-            return Answer::bare(255, 0);
+            return Answer::bare(status::WRONG_HANDLE, 0);
         }
     };
     match looks.look_rows(rows) {
@@ -71,18 +72,18 @@ pub fn look_again(alloc: Global, h: &mut Handle, i: u64, row: &[u64]) -> Answer
     ensures { LooksAgain i row.now h.old.kept h.new.kept result }
 {
     let Some(Opened { room, kept }) = open(alloc, h) else {
-        return Answer::bare(10, 0);
+        return Answer::bare(status::EMPTY_HANDLE, 0);
     };
     let looks = match into_looks(kept) {
         Ok(looks) => looks,
         Err(kept) => {
             close(h, room, kept);
-            return Answer::bare(255, 0);
+            return Answer::bare(status::WRONG_HANDLE, 0);
         }
     };
     if !looks.is_met(i as usize) {
         close(h, room, Kept::Looks(looks));
-        return Answer::bare(210, i);
+        return Answer::bare(status::NO_SUCH_OBJECT, i);
     }
     match looks.look_again(i as usize, row) {
         Ok(looks) => {
@@ -100,13 +101,13 @@ pub fn meet_looks(alloc: Global, h: &mut Handle, values: &[u64]) -> Answer
     ensures { MeetsValues values.now h.old.kept h.new.kept result }
 {
     let Some(Opened { room, kept }) = open(alloc, h) else {
-        return Answer::bare(10, 0);
+        return Answer::bare(status::EMPTY_HANDLE, 0);
     };
     let looks = match into_looks(kept) {
         Ok(looks) => looks,
         Err(kept) => {
             close(h, room, kept);
-            return Answer::bare(255, 0);
+            return Answer::bare(status::WRONG_HANDLE, 0);
         }
     };
     match looks.meet(values) {

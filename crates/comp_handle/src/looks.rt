@@ -12,6 +12,7 @@ use crate::helping::live_words;
 use crate::kept::Kept;
 use crate::kinds::{as_looks, into_looks};
 use crate::opening::{Opened, close, is_full, keep, open};
+use crate::status;
 use heap_layout::{Edition, edition_of};
 use std::alloc::Global;
 use std::sync::Arc;
@@ -57,7 +58,7 @@ fn begin(
     ensures { BeginsOf n count roots.now out.new.kept result edition }
 {
     if edition.max_object_words() < edition.max_words() {
-        return Answer::bare(19, u64::from(n));
+        return Answer::bare(status::BAD_EDITION, u64::from(n));
     }
     match looks_of(alloc, edition, count, roots) {
         Ok(looks) => {
@@ -85,11 +86,11 @@ pub fn begin_looks(
     ensures { BeginsLooks edition count roots.now out.old.kept out.new.kept result }
 {
     if is_full(alloc, out) {
-        return Answer::bare(11, 0);
+        return Answer::bare(status::NOT_EMPTY, 0);
     }
     match edition_of(edition, true) {
         Some(found) => begin(alloc, edition, found, count, roots, out),
-        None => Answer::bare(19, u64::from(edition)),
+        None => Answer::bare(status::BAD_EDITION, u64::from(edition)),
     }
 }
 
@@ -107,11 +108,11 @@ pub fn waiting_looks(alloc: Global, h: &mut Handle, indices: &mut [u64]) -> Answ
     ensures copies { Asks 0 looks_in (CopiesWaiting indices.old indices.new) (indices.new ≡ indices.old) h.old.kept result }
 {
     let Some(kept) = h.take(alloc) else {
-        return Answer::bare(10, 0);
+        return Answer::bare(status::EMPTY_HANDLE, 0);
     };
     let answer = match as_looks(kept.as_ref()) {
         Some(looks) => copy(looks, indices),
-        None => Answer::bare(255, 0),
+        None => Answer::bare(status::WRONG_HANDLE, 0),
     };
     h.put_back(kept);
     answer
@@ -122,12 +123,12 @@ fn unsound(fault: CheckFault) -> Answer
     ensures { result ≡ of_check fault }
 {
     match fault {
-        CheckFault::WrongLength => Answer::bare(31, 0),
-        CheckFault::Changed(i) => Answer::bare(26, i),
-        CheckFault::Unmarked(i) => Answer::bare(27, i),
-        CheckFault::BadWeak(i) => Answer::bare(45, i),
-        CheckFault::Unowned(i) => Answer::bare(192, i),
-        CheckFault::OutOfMemory => Answer::bare(9, 0),
+        CheckFault::WrongLength => Answer::bare(status::WRONG_LENGTH, 0),
+        CheckFault::Changed(i) => Answer::bare(status::CHANGED, i),
+        CheckFault::Unmarked(i) => Answer::bare(status::UNMARKED, i),
+        CheckFault::BadWeak(i) => Answer::bare(status::BAD_WEAK, i),
+        CheckFault::Unowned(i) => Answer::bare(status::NOT_A_RUN, i),
+        CheckFault::OutOfMemory => Answer::bare(status::OUT_OF_MEMORY, 0),
     }
 }
 
@@ -148,11 +149,11 @@ pub fn check_looks(alloc: Global, h: &mut Handle, words: &[u64]) -> Answer
     ensures checks { Asks 0 looks_in (Checks words.now) (Unit {0}) h.old.kept result }
 {
     let Some(kept) = h.take(alloc) else {
-        return Answer::bare(10, 0);
+        return Answer::bare(status::EMPTY_HANDLE, 0);
     };
     let answer = match as_looks(kept.as_ref()) {
         Some(looks) => check(alloc, looks, words),
-        None => Answer::bare(255, 0),
+        None => Answer::bare(status::WRONG_HANDLE, 0),
     };
     h.put_back(kept);
     answer
@@ -166,12 +167,12 @@ fn found_by(alloc: Global, looks: Looks, roots: &[u64]) -> Result<Arc<Places>, A
 {
     let found = match looks.finish(alloc, roots) {
         Ok(found) => found,
-        Err(FinishFault::StillWaiting) => return Err(Answer::bare(211, 0)),
+        Err(FinishFault::StillWaiting) => return Err(Answer::bare(status::STILL_WAITING, 0)),
         Err(FinishFault::Bits(fault)) => return Err(untaken(0, fault)),
     };
     match Arc::new(alloc, found) {
         Ok(found) => Ok(found),
-        Err(_) => Err(Answer::bare(9, 0)),
+        Err(_) => Err(Answer::bare(status::OUT_OF_MEMORY, 0)),
     }
 }
 
@@ -200,22 +201,22 @@ pub fn finish_looks(alloc: Global, looks: &mut Handle, roots: &[u64], survey: &m
 {
     let full = is_full(alloc, survey);
     let Some(Opened { room, kept }) = open(alloc, looks) else {
-        return Answer::bare(10, 0);
+        return Answer::bare(status::EMPTY_HANDLE, 0);
     };
     let own = match into_looks(kept) {
         Ok(own) => own,
         Err(kept) => {
             close(looks, room, kept);
-            return Answer::bare(255, 0);
+            return Answer::bare(status::WRONG_HANDLE, 0);
         }
     };
     if full {
         close(looks, room, Kept::Looks(own));
-        return Answer::bare(11, 1);
+        return Answer::bare(status::NOT_EMPTY, 1);
     }
     if let Some(i) = own.waiting() {
         close(looks, room, Kept::Looks(own));
-        return Answer::bare(211, i as u64);
+        return Answer::bare(status::STILL_WAITING, i as u64);
     }
     end(alloc, own, roots, room, survey)
 }

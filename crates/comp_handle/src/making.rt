@@ -8,6 +8,7 @@ use crate::answer::Answer;
 use crate::handle::Handle;
 use crate::kept::Kept;
 use crate::opening::{is_full, keep};
+use crate::status;
 use heap_layout::{Edition, LayoutFault, MarkedHeap, check_sizes, edition_of};
 use reachability::reachable_heap;
 use std::alloc::{AllocError, Global};
@@ -86,11 +87,11 @@ pub fn put_heap(
     ensures { MakesHeap edition words.now marks.now roots.now out.old.kept out.new.kept result }
 {
     if is_full(alloc, out) {
-        return Answer::bare(11, 0);
+        return Answer::bare(status::NOT_EMPTY, 0);
     }
     match edition_of(edition, true) {
         Some(found) => accept(alloc, out, found, words, marks, roots),
-        None => Answer::bare(19, u64::from(edition)),
+        None => Answer::bare(status::BAD_EDITION, u64::from(edition)),
     }
 }
 
@@ -149,10 +150,10 @@ pub fn put_marked(
     ensures { MarksHeap edition words.now roots.now out.old.kept out.new.kept result }
 {
     if is_full(alloc, out) {
-        return Answer::bare(11, 0);
+        return Answer::bare(status::NOT_EMPTY, 0);
     }
     match edition_of(edition, true) {
         Some(found) => accept_reached(alloc, out, found, words, roots),
-        None => Answer::bare(19, u64::from(edition)),
+        None => Answer::bare(status::BAD_EDITION, u64::from(edition)),
     }
 }

@@ -8,6 +8,7 @@ ghost use Rattle.comp_handle.specs.Knowing.{knowing, knows, IsOwnMet};
 ghost use Rattle.comp_handle.specs.Lending.{IsStillShared};
 ghost use Rattle.comp_handle.specs.Marking.{of_begin, of_ending, of_meeting, BeginsMarking, BeginsMarkingOf, EndsMarking, HelpsMarking, IsBegunWith, IsFoundBy, IsUnendedMarking, KnowsBegun, Meets, MeetsMarking, SharesMarking};
 ghost use Rattle.comp_handle.specs.Resting.{IsUnsharedIn};
+ghost use Rattle.comp_handle.specs.Statuses.{not_empty, out_of_memory};
 ghost use Rattle.mark_job.specs.Marking.{IsBeginFaultOf, IsEndFaultOf};
 
 use crate::answer::Answer;
@@ -18,6 +19,7 @@ use crate::kept::Kept;
 use crate::kinds::{as_marking, into_marking};
 use crate::marker::Marker;
 use crate::opening::{Opened, close, is_full, keep, open};
+use crate::status;
 use heap_layout::{Edition, edition_of};
 use mark_job::{Help, Marking, MarkingEnd, MarkingFault, MeetFault, Met, WrongLength};
 use std::alloc::Global;
@@ -29,10 +31,10 @@ fn unbegun(n: u32, fault: MarkingFault) -> Answer
     ensures { result ≡ of_begin n fault }
 {
     match fault {
-        MarkingFault::TooLarge => Answer::bare(33, 0),
-        MarkingFault::ShortObjects => Answer::bare(19, u64::from(n)),
-        MarkingFault::BadRoot(k) => Answer::bare(38, k),
-        MarkingFault::OutOfMemory => Answer::bare(9, 0),
+        MarkingFault::TooLarge => Answer::bare(status::TOO_LARGE, 0),
+        MarkingFault::ShortObjects => Answer::bare(status::BAD_EDITION, u64::from(n)),
+        MarkingFault::BadRoot(k) => Answer::bare(status::BAD_ROOT, k),
+        MarkingFault::OutOfMemory => Answer::bare(status::OUT_OF_MEMORY, 0),
     }
 }
 
@@ -93,11 +95,11 @@ pub fn begin_marking(
     ensures { BeginsMarking edition count roots.now out.old.kept out.new.kept result }
 {
     if is_full(alloc, out) {
-        return Answer::bare(11, 0);
+        return Answer::bare(status::NOT_EMPTY, 0);
     }
     match edition_of(edition, true) {
         Some(found) => begin(alloc, edition, found, count, roots, out),
-        None => Answer::bare(19, u64::from(edition)),
+        None => Answer::bare(status::BAD_EDITION, u64::from(edition)),
     }
 }
 
@@ -106,17 +108,17 @@ fn share(marker: &Marker, full: bool) -> Result<Marker, Answer>
     ensures knows { IfOk result (λ own. KnowsBegun marker.now.marking.value (knowing own)) }
     ensures own { IfOk result (λ own. IsOwnMet (knowing own)) }
     ensures free { IfOk result (λ _. IsFalse full) }
-    ensures none { IfErr result (λ a. (IsTrue full × (a ≡ bare 11 1)) ⊎ (IsFalse full × (a ≡ bare 9 0))) }
+    ensures none { IfErr result (λ a. (IsTrue full × (a ≡ bare not_empty 1)) ⊎ (IsFalse full × (a ≡ bare out_of_memory 0))) }
 {
     if full {
-        return Err(Answer::bare(11, 1));
+        return Err(Answer::bare(status::NOT_EMPTY, 1));
     }
     match Arc::try_clone(&marker.marking) {
         Ok(marking) => {
             let met = (&*marking).enter();
             Ok(Marker { marking, met })
         }
-        Err(_) => Err(Answer::bare(9, 0)),
+        Err(_) => Err(Answer::bare(status::OUT_OF_MEMORY, 0)),
     }
 }
 
@@ -129,11 +131,11 @@ fn share_of(alloc: Global, h: &mut Handle, full: bool) -> Result<Marker, Answer>
     ensures none { IfErr result (IsUnsharedIn marking_in full h.old.kept) }
 {
     let Some(kept) = h.take(alloc) else {
-        return Err(Answer::bare(10, 0));
+        return Err(Answer::bare(status::EMPTY_HANDLE, 0));
     };
     let own = match as_marking(kept.as_ref()) {
         Some(marker) => share(marker, full),
-        None => Err(Answer::bare(255, 0)),
+        None => Err(Answer::bare(status::WRONG_HANDLE, 0)),
     };
     h.put_back(kept);
     own
@@ -151,7 +153,7 @@ pub fn share_marking(alloc: Global, h: &mut Handle, other: &mut Handle) -> Answe
             if keep(alloc, other, Kept::Marking(own)) {
                 Answer::done(0)
             } else {
-                Answer::bare(9, 0)
+                Answer::bare(status::OUT_OF_MEMORY, 0)
             }
         }
         Err(answer) => answer,
@@ -166,7 +168,7 @@ fn help(alloc: Global, marker: &Marker, words: &[u64], who: u64) -> Answer
         Ok(Help::Done) => Answer::done(0),
         Ok(Help::Worked) => Answer::done(1),
         Ok(Help::Idle) => Answer::done(2),
-        Err(WrongLength) => Answer::bare(31, 0),
+        Err(WrongLength) => Answer::bare(status::WRONG_LENGTH, 0),
     }
 }
 
@@ -179,11 +181,11 @@ pub fn help_marking(alloc: Global, h: &mut Handle, words: &[u64], who: u64) -> A
     ensures helps { Asks 0 marking_in (HelpsMarking (length words.now)) (Unit {0}) h.old.kept result }
 {
     let Some(kept) = h.take(alloc) else {
-        return Answer::bare(10, 0);
+        return Answer::bare(status::EMPTY_HANDLE, 0);
     };
     let answer = match as_marking(kept.as_ref()) {
         Some(marker) => help(alloc, marker, words, who),
-        None => Answer::bare(255, 0),
+        None => Answer::bare(status::WRONG_HANDLE, 0),
     };
     h.put_back(kept);
     answer
@@ -194,9 +196,9 @@ fn unmet(fault: MeetFault) -> Answer
     ensures { result ≡ of_meeting fault }
 {
     match fault {
-        MeetFault::BadValue(k) => Answer::bare(38, k),
-        MeetFault::Busy => Answer::bare(200, 0),
-        MeetFault::OutOfMemory => Answer::bare(9, 0),
+        MeetFault::BadValue(k) => Answer::bare(status::BAD_ROOT, k),
+        MeetFault::Busy => Answer::bare(status::MARKERS_BUSY, 0),
+        MeetFault::OutOfMemory => Answer::bare(status::OUT_OF_MEMORY, 0),
     }
 }
 
@@ -219,11 +221,11 @@ pub fn meet_marking(alloc: Global, h: &mut Handle, values: &[u64]) -> Answer
     ensures { MeetsMarking values.now h.old.kept h.new.kept result }
 {
     let Some(mut kept) = h.take(alloc) else {
-        return Answer::bare(10, 0);
+        return Answer::bare(status::EMPTY_HANDLE, 0);
     };
     let answer = match kept.as_mut() {
         Kept::Marking(marker) => meet(alloc, marker, values),
-        _ => Answer::bare(255, 0),
+        _ => Answer::bare(status::WRONG_HANDLE, 0),
     };
     h.put_back(kept);
     answer
@@ -257,14 +259,14 @@ fn sole(kept: Kept, full: bool) -> Result<Last, Left>
         Err(kept) => {
             return Err(Left {
                 kept,
-                answer: Answer::bare(255, 0),
+                answer: Answer::bare(status::WRONG_HANDLE, 0),
             });
         }
     };
     if full {
         return Err(Left {
             kept: Kept::Marking(marker),
-            answer: Answer::bare(11, 1),
+            answer: Answer::bare(status::NOT_EMPTY, 1),
         });
     }
     let Marker { marking, met } = marker;
@@ -272,7 +274,7 @@ fn sole(kept: Kept, full: bool) -> Result<Last, Left>
         Ok(marking) => Ok(Last { marking, met }),
         Err(marking) => Err(Left {
             kept: Kept::Marking(Marker { marking, met }),
-            answer: Answer::bare(28, 0),
+            answer: Answer::bare(status::STILL_SHARED, 0),
         }),
     }
 }
@@ -282,9 +284,9 @@ fn unended(fault: MarkingEnd) -> Answer
     ensures { result ≡ of_ending fault }
 {
     match fault {
-        MarkingEnd::Waiting => Answer::bare(201, 0),
-        MarkingEnd::NoMemory => Answer::bare(9, 0),
-        MarkingEnd::BadObject(i) => Answer::bare(202, i),
+        MarkingEnd::Waiting => Answer::bare(status::STILL_MARKING, 0),
+        MarkingEnd::NoMemory => Answer::bare(status::OUT_OF_MEMORY, 0),
+        MarkingEnd::BadObject(i) => Answer::bare(status::BAD_OBJECT, i),
         MarkingEnd::Bits(fault) => untaken(0, fault),
     }
 }
@@ -334,7 +336,7 @@ pub fn finish_marking(
 {
     let full = is_full(alloc, survey);
     let Some(Opened { room, kept }) = open(alloc, marking) else {
-        return Answer::bare(10, 0);
+        return Answer::bare(status::EMPTY_HANDLE, 0);
     };
     match sole(kept, full) {
         Ok(own) => end(alloc, own, roots, room, survey),

@@ -10,6 +10,7 @@ use crate::answer::Answer;
 use crate::handle::Handle;
 use crate::judging::unread;
 use crate::kinds::as_heap;
+use crate::status;
 use comp_audit::DumpFault;
 use heap_layout::{Counted, MarkedHeap};
 use moved_heaps::{HeadPart, MovedFault, MovedHeap, judge, read_moved};
@@ -31,12 +32,20 @@ fn unlawful(fault: MovedFault) -> Answer
     ensures { result ≡ of_moved fault }
 {
     match fault {
-        MovedFault::WrongHead(part) => Answer::bare(161, head_number(part)),
-        MovedFault::PlaceOutside(k) => Answer::bare(162, k),
-        MovedFault::Overlap(k, l) => Answer::two(163, k, l.min(4_294_967_295) as u32),
-        MovedFault::WrongRoot(i) => Answer::bare(164, i),
-        MovedFault::WrongWord(k, i) => Answer::two(165, k, i.min(4_294_967_295) as u32),
-        MovedFault::OutOfMemory => Answer::bare(9, 0),
+        MovedFault::WrongHead(part) => Answer::bare(status::MOVED_WRONG_HEAD, head_number(part)),
+        MovedFault::PlaceOutside(k) => Answer::bare(status::MOVED_PLACE_OUTSIDE, k),
+        MovedFault::Overlap(k, l) => Answer::two(
+            status::MOVED_OVERLAP,
+            k,
+            l.min(4_294_967_295) as u32,
+        ),
+        MovedFault::WrongRoot(i) => Answer::bare(status::MOVED_WRONG_ROOT, i),
+        MovedFault::WrongWord(k, i) => Answer::two(
+            status::MOVED_WRONG_WORD,
+            k,
+            i.min(4_294_967_295) as u32,
+        ),
+        MovedFault::OutOfMemory => Answer::bare(status::OUT_OF_MEMORY, 0),
     }
 }
 
@@ -70,11 +79,11 @@ pub fn judge_moved(alloc: Global, h: &mut Handle, bytes: &[u8]) -> Answer
     ensures judges { Asks 0 heap_in (JudgesMoved bytes.now) (Unit {0}) h.old.kept result }
 {
     let Some(kept) = h.take(alloc) else {
-        return Answer::bare(10, 0);
+        return Answer::bare(status::EMPTY_HANDLE, 0);
     };
     let answer = match as_heap(kept.as_ref()) {
         Some(heap) => judge_bytes(alloc, heap, bytes),
-        None => Answer::bare(255, 0),
+        None => Answer::bare(status::WRONG_HANDLE, 0),
     };
     h.put_back(kept);
     answer

@@ -6,6 +6,7 @@ ghost use Rattle.comp_handle.specs.HandleKinds.{pages_in};
 ghost use Rattle.comp_handle.specs.Paged.{paged, IsOwn};
 ghost use Rattle.comp_handle.specs.Paging.{BeginsPages, EndsPages, IsLeft, SharesPages};
 ghost use Rattle.comp_handle.specs.Resting.{IsUnsharedIn};
+ghost use Rattle.comp_handle.specs.Statuses.{not_empty, out_of_memory};
 
 use crate::answer::Answer;
 use crate::handle::Handle;
@@ -13,6 +14,7 @@ use crate::kept::Kept;
 use crate::kinds::{as_pages, into_pages, into_survey};
 use crate::opening::{Opened, close, is_full, keep, open};
 use crate::pages::{Has, Paging};
+use crate::status;
 use first_touch::{NotHome, Turns};
 use std::alloc::Global;
 use std::sync::Arc;
@@ -26,22 +28,22 @@ pub fn begin_pages(alloc: Global, survey: &mut Handle, size: u64, pages: &mut Ha
 {
     let full = is_full(alloc, pages);
     let Some(Opened { room, kept }) = open(alloc, survey) else {
-        return Answer::bare(10, 0);
+        return Answer::bare(status::EMPTY_HANDLE, 0);
     };
     let places = match into_survey(kept) {
         Ok(places) => places,
         Err(kept) => {
             close(survey, room, kept);
-            return Answer::bare(255, 0);
+            return Answer::bare(status::WRONG_HANDLE, 0);
         }
     };
     if full {
         close(survey, room, Kept::Survey(places));
-        return Answer::bare(11, 1);
+        return Answer::bare(status::NOT_EMPTY, 1);
     }
     if size == 0 {
         close(survey, room, Kept::Survey(places));
-        return Answer::bare(193, 0);
+        return Answer::bare(status::NO_SIZE, 0);
     }
     match Turns::begin_shared(alloc, places, size as usize) {
         Ok(turns) => {
@@ -52,7 +54,7 @@ pub fn begin_pages(alloc: Global, survey: &mut Handle, size: u64, pages: &mut Ha
         }
         Err(refused) => {
             close(survey, room, Kept::Survey(refused.places));
-            Answer::bare(9, 0)
+            Answer::bare(status::OUT_OF_MEMORY, 0)
         }
     }
 }
@@ -61,14 +63,14 @@ pub fn begin_pages(alloc: Global, survey: &mut Handle, size: u64, pages: &mut Ha
 fn share(pages: &Paging, full: bool) -> Result<Arc<Turns>, Answer>
     ensures same { IfOk result (λ own. own.value ≡ pages.now.turns.value) }
     ensures free { IfOk result (λ _. IsFalse full) }
-    ensures none { IfErr result (λ a. (IsTrue full × (a ≡ bare 11 1)) ⊎ (IsFalse full × (a ≡ bare 9 0))) }
+    ensures none { IfErr result (λ a. (IsTrue full × (a ≡ bare not_empty 1)) ⊎ (IsFalse full × (a ≡ bare out_of_memory 0))) }
 {
     if full {
-        return Err(Answer::bare(11, 1));
+        return Err(Answer::bare(status::NOT_EMPTY, 1));
     }
     match Arc::try_clone(&pages.turns) {
         Ok(own) => Ok(own),
-        Err(_) => Err(Answer::bare(9, 0)),
+        Err(_) => Err(Answer::bare(status::OUT_OF_MEMORY, 0)),
     }
 }
 
@@ -80,11 +82,11 @@ fn share_of(alloc: Global, h: &mut Handle, full: bool) -> Result<Arc<Turns>, Ans
     ensures none { IfErr result (IsUnsharedIn pages_in full h.old.kept) }
 {
     let Some(kept) = h.take(alloc) else {
-        return Err(Answer::bare(10, 0));
+        return Err(Answer::bare(status::EMPTY_HANDLE, 0));
     };
     let own = match as_pages(kept.as_ref()) {
         Some(pages) => share(pages, full),
-        None => Err(Answer::bare(255, 0)),
+        None => Err(Answer::bare(status::WRONG_HANDLE, 0)),
     };
     h.put_back(kept);
     own
@@ -103,7 +105,7 @@ pub fn share_pages(alloc: Global, h: &mut Handle, other: &mut Handle) -> Answer
             if keep(alloc, other, Kept::Pages(Paging { turns, has })) {
                 Answer::done(0)
             } else {
-                Answer::bare(9, 0)
+                Answer::bare(status::OUT_OF_MEMORY, 0)
             }
         }
         Err(answer) => answer,
@@ -129,7 +131,7 @@ fn end(turns: Arc<Turns>) -> Result<Arc<Places>, Left>
             let has = Has::Sight(sight);
             return Err(Left {
                 pages: Paging { turns, has },
-                answer: Answer::bare(197, page as u64),
+                answer: Answer::bare(status::NOT_HOME, page as u64),
             });
         }
     };
@@ -139,7 +141,7 @@ fn end(turns: Arc<Turns>) -> Result<Arc<Places>, Left>
             let has = Has::Nothing;
             Err(Left {
                 pages: Paging { turns, has },
-                answer: Answer::bare(28, 0),
+                answer: Answer::bare(status::STILL_SHARED, 0),
             })
         }
     }
@@ -153,22 +155,22 @@ pub fn end_pages(alloc: Global, pages: &mut Handle, survey: &mut Handle) -> Answ
 {
     let full = is_full(alloc, survey);
     let Some(Opened { room, kept }) = open(alloc, pages) else {
-        return Answer::bare(10, 0);
+        return Answer::bare(status::EMPTY_HANDLE, 0);
     };
     let own = match into_pages(kept) {
         Ok(own) => own,
         Err(kept) => {
             close(pages, room, kept);
-            return Answer::bare(255, 0);
+            return Answer::bare(status::WRONG_HANDLE, 0);
         }
     };
     if full {
         close(pages, room, Kept::Pages(own));
-        return Answer::bare(11, 1);
+        return Answer::bare(status::NOT_EMPTY, 1);
     }
     if let Some(page) = own.has.page() {
         close(pages, room, Kept::Pages(own));
-        return Answer::bare(197, page as u64);
+        return Answer::bare(status::NOT_HOME, page as u64);
     }
     match end(own.turns) {
         Ok(places) => {

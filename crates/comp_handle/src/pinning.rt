@@ -3,6 +3,7 @@ ghost use Rattle.std.specs.Prelude.{◌≡◌, ◌*◌, ◌≤◌, length};
 ghost use Rattle.comp_handle.specs.Pinning.{of_pinned, AreListed, CollectsPinned, CollectsPinnedOf};
 
 use crate::answer::Answer;
+use crate::status;
 use heap_layout::{Edition, edition_of};
 use pinned_heap::{CollectPinnedFault, Run};
 use std::alloc::Global;
@@ -13,8 +14,8 @@ fn unpinned(fault: CollectPinnedFault) -> Answer
 {
     match fault {
         CollectPinnedFault::Survey(fault) => Answer::unsurveyed(fault),
-        CollectPinnedFault::BadPin(k) => Answer::bare(226, k),
-        CollectPinnedFault::TooManyRuns(count) => Answer::bare(22, count),
+        CollectPinnedFault::BadPin(k) => Answer::bare(status::BAD_PIN, k),
+        CollectPinnedFault::TooManyRuns(count) => Answer::bare(status::TOO_SHORT, count),
     }
 }
 
@@ -71,6 +72,6 @@ pub fn collect_pinned(
 {
     match edition_of(edition, true) {
         Some(found) => collect_pinned_of(alloc, found, words, roots, pins, runs, run_count),
-        None => Answer::bare(19, u64::from(edition)),
+        None => Answer::bare(status::BAD_EDITION, u64::from(edition)),
     }
 }

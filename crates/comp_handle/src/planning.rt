@@ -4,12 +4,14 @@ ghost use Rattle.comp_handle.specs.Answers.{bare};
 ghost use Rattle.comp_handle.specs.HandleKinds.{plan_in, Asks};
 ghost use Rattle.comp_handle.specs.Planning.{led_by_plan, CopiesPlanned, ForwardsBy};
 ghost use Rattle.comp_handle.specs.Resting.{IsUnsharedIn, Shares};
+ghost use Rattle.comp_handle.specs.Statuses.{not_empty, out_of_memory};
 
 use crate::answer::Answer;
 use crate::handle::Handle;
 use crate::kept::Kept;
 use crate::kinds::as_plan;
 use crate::opening::{is_full, keep};
+use crate::status;
 use page_plan::Plan;
 use std::alloc::Global;
 use std::sync::Arc;
@@ -18,14 +20,14 @@ use std::sync::Arc;
 fn share(plan: &Arc<Plan>, full: bool) -> Result<Arc<Plan>, Answer>
     ensures same { IfOk result (λ own. own.value ≡ plan.now.value) }
     ensures free { IfOk result (λ _. IsFalse full) }
-    ensures none { IfErr result (λ a. (IsTrue full × (a ≡ bare 11 1)) ⊎ (IsFalse full × (a ≡ bare 9 0))) }
+    ensures none { IfErr result (λ a. (IsTrue full × (a ≡ bare not_empty 1)) ⊎ (IsFalse full × (a ≡ bare out_of_memory 0))) }
 {
     if full {
-        return Err(Answer::bare(11, 1));
+        return Err(Answer::bare(status::NOT_EMPTY, 1));
     }
     match Arc::try_clone(plan) {
         Ok(own) => Ok(own),
-        Err(_) => Err(Answer::bare(9, 0)),
+        Err(_) => Err(Answer::bare(status::OUT_OF_MEMORY, 0)),
     }
 }
 
@@ -37,11 +39,11 @@ fn share_of(alloc: Global, h: &mut Handle, full: bool) -> Result<Arc<Plan>, Answ
     ensures none { IfErr result (IsUnsharedIn plan_in full h.old.kept) }
 {
     let Some(kept) = h.take(alloc) else {
-        return Err(Answer::bare(10, 0));
+        return Err(Answer::bare(status::EMPTY_HANDLE, 0));
     };
     let own = match as_plan(kept.as_ref()) {
         Some(plan) => share(plan, full),
-        None => Err(Answer::bare(255, 0)),
+        None => Err(Answer::bare(status::WRONG_HANDLE, 0)),
     };
     h.put_back(kept);
     own
@@ -59,7 +61,7 @@ pub fn share_plan(alloc: Global, h: &mut Handle, other: &mut Handle) -> Answer
             if keep(alloc, other, Kept::Plan(own)) {
                 Answer::done(0)
             } else {
-                Answer::bare(9, 0)
+                Answer::bare(status::OUT_OF_MEMORY, 0)
             }
         }
         Err(answer) => answer,
@@ -71,14 +73,14 @@ fn copy_planned(alloc: Global, plan: &Plan, p: u64, out: &mut [u64; 64]) -> Answ
     ensures { CopiesPlanned p out.old out.new plan.now result }
 {
     if p >= plan.pages() {
-        return Answer::bare(12, p);
+        return Answer::bare(status::NO_SUCH_PAGE, p);
     }
     match plan.build_page(alloc, p) {
         Ok(words) => {
             *out = *words.as_array();
             Answer::done(0)
         }
-        Err(_) => Answer::bare(9, 0),
+        Err(_) => Answer::bare(status::OUT_OF_MEMORY, 0),
     }
 }
 
@@ -96,11 +98,11 @@ pub fn plan_page(alloc: Global, h: &mut Handle, p: u64, out: &mut [u64; 64]) -> 
     ensures copies { Asks 0 plan_in (CopiesPlanned p out.old out.new) (out.new ≡ out.old) h.old.kept result }
 {
     let Some(kept) = h.take(alloc) else {
-        return Answer::bare(10, 0);
+        return Answer::bare(status::EMPTY_HANDLE, 0);
     };
     let answer = match as_plan(kept.as_ref()) {
         Some(plan) => copy_shared(alloc, plan, p, out),
-        None => Answer::bare(255, 0),
+        None => Answer::bare(status::WRONG_HANDLE, 0),
     };
     h.put_back(kept);
     answer
@@ -138,11 +140,11 @@ pub fn forward_plan(alloc: Global, h: &mut Handle, addresses: &mut [u64]) -> Ans
     ensures forwards { Asks 0 plan_in (ForwardsBy addresses.old addresses.new) (addresses.new ≡ addresses.old) h.old.kept result }
 {
     let Some(kept) = h.take(alloc) else {
-        return Answer::bare(10, 0);
+        return Answer::bare(status::EMPTY_HANDLE, 0);
     };
     let answer = match as_plan(kept.as_ref()) {
         Some(plan) => forward_shared(plan, addresses),
-        None => Answer::bare(255, 0),
+        None => Answer::bare(status::WRONG_HANDLE, 0),
     };
     h.put_back(kept);
     answer

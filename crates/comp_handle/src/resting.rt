@@ -3,6 +3,7 @@ ghost use Rattle.std.specs.Prelude.{◌≡◌, ◌⊎◌, None, Some, IfErr, IfO
 ghost use Rattle.comp_handle.specs.Answers.{bare};
 ghost use Rattle.comp_handle.specs.HandleKinds.{survey_in, Asks};
 ghost use Rattle.comp_handle.specs.Resting.{asked, nulls, Collects, CollectsIn, CollectsInPlace, CollectsWithin, CountsSurvey, ForwardsRoots, ForwardsWeak, IsTakenOf, IsUnsharedIn, RefusesMarks, Shares, Slides, Surveys, SurveysByMarks, SurveysByRoots, TakesMarks};
+ghost use Rattle.comp_handle.specs.Statuses.{not_empty, out_of_memory};
 ghost use Rattle.mark_job.specs.Asked.{IsMarkedOf};
 ghost use Rattle.stopped_heap.specs.Reached.{IsFaultOf};
 
@@ -11,6 +12,7 @@ use crate::handle::Handle;
 use crate::kept::Kept;
 use crate::kinds::as_survey;
 use crate::opening::{is_full, keep};
+use crate::status;
 use heap_layout::{Edition, edition_of};
 use std::alloc::Global;
 use std::sync::Arc;
@@ -46,7 +48,7 @@ pub fn collect(
 {
     match edition_of(edition, true) {
         Some(found) => collect_of(alloc, found, words, roots, to),
-        None => Answer::bare(19, u64::from(edition)),
+        None => Answer::bare(status::BAD_EDITION, u64::from(edition)),
     }
 }
 
@@ -60,14 +62,14 @@ fn collect_within(alloc: Global, edition: Edition, words: &mut [u64], roots: &mu
     }
 }
 
-/// The same within the words, with no second memory: the live words are the first ones then. If it is refused, neither
-/// the words nor the roots have changed.
+/// Collects the heap of these words and roots within the words, as `collect` does with no second memory: the live words
+/// are the first ones then, and the answer has their number. If it is refused, neither words nor roots have changed.
 pub fn collect_in_place(alloc: Global, edition: u32, words: &mut [u64], roots: &mut [u64]) -> Answer
     ensures { CollectsInPlace edition words.old words.new roots.old roots.new result }
 {
     match edition_of(edition, true) {
         Some(found) => collect_within(alloc, found, words, roots),
-        None => Answer::bare(19, u64::from(edition)),
+        None => Answer::bare(status::BAD_EDITION, u64::from(edition)),
     }
 }
 
@@ -133,11 +135,11 @@ pub fn survey_by_roots(
     ensures { SurveysByRoots edition words.now roots.now out.old.kept out.new.kept result }
 {
     if is_full(alloc, out) {
-        return Answer::bare(11, 0);
+        return Answer::bare(status::NOT_EMPTY, 0);
     }
     match edition_of(edition, true) {
         Some(found) => survey_roots(alloc, found, words, roots, out),
-        None => Answer::bare(19, u64::from(edition)),
+        None => Answer::bare(status::BAD_EDITION, u64::from(edition)),
     }
 }
 
@@ -183,8 +185,8 @@ fn survey_marks(
     }
 }
 
-/// The same by marks of the caller's own, a bit for each word: marked are the objects at the bits that are set. Each
-/// root, and each reference of a marked object, must lead to a marked object.
+/// Surveys by marks of the caller's own, a bit for each word, as `survey_by_roots` does by roots: marked are the
+/// objects at the bits that are set. Each root, and each reference of a marked object, must lead to a marked object.
 pub fn survey_by_marks(
     alloc: Global,
     edition: u32,
@@ -196,11 +198,11 @@ pub fn survey_by_marks(
     ensures { SurveysByMarks edition words.now roots.now marks.now out.old.kept out.new.kept result }
 {
     if is_full(alloc, out) {
-        return Answer::bare(11, 0);
+        return Answer::bare(status::NOT_EMPTY, 0);
     }
     match edition_of(edition, true) {
         Some(found) => survey_marks(alloc, found, words, roots, marks, out),
-        None => Answer::bare(19, u64::from(edition)),
+        None => Answer::bare(status::BAD_EDITION, u64::from(edition)),
     }
 }
 
@@ -228,11 +230,11 @@ pub fn survey_facts(alloc: Global, h: &mut Handle, out: &mut SurveyFacts) -> Ans
     ensures counts { Asks 0 survey_in (CountsSurvey out.new) (out.new ≡ out.old) h.old.kept result }
 {
     let Some(kept) = h.take(alloc) else {
-        return Answer::bare(10, 0);
+        return Answer::bare(status::EMPTY_HANDLE, 0);
     };
     let answer = match as_survey(kept.as_ref()) {
         Some(places) => count(places, out),
-        None => Answer::bare(255, 0),
+        None => Answer::bare(status::WRONG_HANDLE, 0),
     };
     h.put_back(kept);
     answer
@@ -242,14 +244,14 @@ pub fn survey_facts(alloc: Global, h: &mut Handle, out: &mut SurveyFacts) -> Ans
 fn share(places: &Arc<Places>, full: bool) -> Result<Arc<Places>, Answer>
     ensures same { IfOk result (λ own. own.value ≡ places.now.value) }
     ensures free { IfOk result (λ _. IsFalse full) }
-    ensures none { IfErr result (λ a. (IsTrue full × (a ≡ bare 11 1)) ⊎ (IsFalse full × (a ≡ bare 9 0))) }
+    ensures none { IfErr result (λ a. (IsTrue full × (a ≡ bare not_empty 1)) ⊎ (IsFalse full × (a ≡ bare out_of_memory 0))) }
 {
     if full {
-        return Err(Answer::bare(11, 1));
+        return Err(Answer::bare(status::NOT_EMPTY, 1));
     }
     match Arc::try_clone(places) {
         Ok(own) => Ok(own),
-        Err(_) => Err(Answer::bare(9, 0)),
+        Err(_) => Err(Answer::bare(status::OUT_OF_MEMORY, 0)),
     }
 }
 
@@ -261,11 +263,11 @@ fn share_of(alloc: Global, h: &mut Handle, full: bool) -> Result<Arc<Places>, An
     ensures none { IfErr result (IsUnsharedIn survey_in full h.old.kept) }
 {
     let Some(kept) = h.take(alloc) else {
-        return Err(Answer::bare(10, 0));
+        return Err(Answer::bare(status::EMPTY_HANDLE, 0));
     };
     let own = match as_survey(kept.as_ref()) {
         Some(places) => share(places, full),
-        None => Err(Answer::bare(255, 0)),
+        None => Err(Answer::bare(status::WRONG_HANDLE, 0)),
     };
     h.put_back(kept);
     own
@@ -283,7 +285,7 @@ pub fn share_survey(alloc: Global, h: &mut Handle, other: &mut Handle) -> Answer
             if keep(alloc, other, Kept::Survey(own)) {
                 Answer::done(0)
             } else {
-                Answer::bare(9, 0)
+                Answer::bare(status::OUT_OF_MEMORY, 0)
             }
         }
         Err(answer) => answer,
@@ -315,11 +317,11 @@ pub fn slide_survey(
     ensures slides { Asks 0 survey_in (Slides words.now first part.old part.new) (part.new ≡ part.old) h.old.kept result }
 {
     let Some(kept) = h.take(alloc) else {
-        return Answer::bare(10, 0);
+        return Answer::bare(status::EMPTY_HANDLE, 0);
     };
     let answer = match as_survey(kept.as_ref()) {
         Some(places) => slide(places, words, first, part),
-        None => Answer::bare(255, 0),
+        None => Answer::bare(status::WRONG_HANDLE, 0),
     };
     h.put_back(kept);
     answer
@@ -331,7 +333,7 @@ fn forward(places: &Arc<Places>, roots: &mut [u64]) -> Answer
 {
     match (&**places).forward_roots(roots) {
         Ok(()) => Answer::done(0),
-        Err(k) => Answer::bare(38, k as u64),
+        Err(k) => Answer::bare(status::BAD_ROOT, k as u64),
     }
 }
 
@@ -343,11 +345,11 @@ pub fn forward_survey(alloc: Global, h: &mut Handle, roots: &mut [u64]) -> Answe
     ensures forwards { Asks 0 survey_in (ForwardsRoots roots.old roots.new) (roots.new ≡ roots.old) h.old.kept result }
 {
     let Some(kept) = h.take(alloc) else {
-        return Answer::bare(10, 0);
+        return Answer::bare(status::EMPTY_HANDLE, 0);
     };
     let answer = match as_survey(kept.as_ref()) {
         Some(places) => forward(places, roots),
-        None => Answer::bare(255, 0),
+        None => Answer::bare(status::WRONG_HANDLE, 0),
     };
     h.put_back(kept);
     answer
@@ -382,11 +384,11 @@ pub fn forward_weak(alloc: Global, h: &mut Handle, words: &mut [u64]) -> Answer
     ensures forwards { Asks 0 survey_in (ForwardsWeak words.old words.new) (words.new ≡ words.old) h.old.kept result }
 {
     let Some(kept) = h.take(alloc) else {
-        return Answer::bare(10, 0);
+        return Answer::bare(status::EMPTY_HANDLE, 0);
     };
     let answer = match as_survey(kept.as_ref()) {
         Some(places) => forward_lost(places, words),
-        None => Answer::bare(255, 0),
+        None => Answer::bare(status::WRONG_HANDLE, 0),
     };
     h.put_back(kept);
     answer

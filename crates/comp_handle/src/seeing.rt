@@ -6,6 +6,7 @@ ghost use Rattle.comp_handle.specs.Seeing.{CopiesSeen, SeesBy};
 use crate::answer::Answer;
 use crate::handle::Handle;
 use crate::kept::Kept;
+use crate::status;
 use comp_crew::Member;
 use std::alloc::Global;
 
@@ -16,7 +17,7 @@ fn copy_seen(alloc: Global, m: &mut Member, p: u64, out: &mut [u64; 64]) -> Answ
     ensures copies { CopiesSeen p out.old out.new m.old m.new result }
 {
     if p >= m.pages() {
-        return Answer::bare(12, p);
+        return Answer::bare(status::NO_SUCH_PAGE, p);
     }
     match m.page_copy(alloc, p) {
         Ok(copy) => {
@@ -34,11 +35,11 @@ pub fn seen_page(alloc: Global, h: &mut Handle, p: u64, out: &mut [u64; 64]) -> 
     ensures { SeesBy p out.old out.new h.old.kept h.new.kept result }
 {
     let Some(mut kept) = h.take(alloc) else {
-        return Answer::bare(10, 0);
+        return Answer::bare(status::EMPTY_HANDLE, 0);
     };
     let answer = match kept.as_mut() {
         Kept::Mutator(m) => copy_seen(alloc, m, p, out),
-        _ => Answer::bare(255, 0),
+        _ => Answer::bare(status::WRONG_HANDLE, 0),
     };
     h.put_back(kept);
     answer

@@ -9,6 +9,7 @@ ghost use Rattle.comp_handle.specs.Settling.{RestsAt};
 use crate::answer::Answer;
 use crate::handle::Handle;
 use crate::kinds::as_end;
+use crate::status;
 use comp_crew::{Ended, Finished};
 use heap_layout::{Edition, FROM_SPACE};
 use std::alloc::Global;
@@ -60,13 +61,13 @@ fn settle_end(alloc: Global, e: &Ended, words: &mut [u64], roots: &mut [u64]) ->
     let finished = e.finished();
     let count = 64 * finished.pages().len();
     if words.len() < count {
-        return Answer::two(22, count as u64, 0);
+        return Answer::two(status::TOO_SHORT, count as u64, 0);
     }
     if roots.len() < finished.roots().len() {
-        return Answer::two(22, finished.roots().len() as u64, 1);
+        return Answer::two(status::TOO_SHORT, finished.roots().len() as u64, 1);
     }
     let Ok(all) = e.rest_words(alloc) else {
-        return Answer::bare(9, 0);
+        return Answer::bare(status::OUT_OF_MEMORY, 0);
     };
     copy_words(&all, words);
     copy_roots(finished, roots);
@@ -83,11 +84,11 @@ pub fn rest_end(alloc: Global, h: &mut Handle, words: &mut [u64], roots: &mut [u
     ensures rests { Asks 0 end_in (RestsAt words.old words.new roots.old roots.new) ((words.new ≡ words.old) × (roots.new ≡ roots.old)) h.old.kept result }
 {
     let Some(kept) = h.take(alloc) else {
-        return Answer::bare(10, 0);
+        return Answer::bare(status::EMPTY_HANDLE, 0);
     };
     let answer = match as_end(kept.as_ref()) {
         Some(e) => settle_end(alloc, e, words, roots),
-        None => Answer::bare(255, 0),
+        None => Answer::bare(status::WRONG_HANDLE, 0),
     };
     h.put_back(kept);
     answer

@@ -10,6 +10,7 @@ use crate::copying::copy_bytes;
 use crate::handle::Handle;
 use crate::judging::{is_of_words, is_whole, read_as, unread, verdict};
 use crate::kinds::as_plan;
+use crate::status;
 use comp_audit::{AuditFault, Dump, DumpFault, Verdict, explain};
 use heap_layout::OutOfMemory;
 use page_plan::Plan;
@@ -67,7 +68,7 @@ fn tell_by(alloc: Global, plan: &Plan, bytes: &[u8], options: u32, out: &mut [u8
     ensures { ExplainsBy options bytes.now out.old out.new plan.now result }
 {
     if options > 3 {
-        return Answer::bare(32, u64::from(options));
+        return Answer::bare(status::BAD_OPTIONS, u64::from(options));
     }
     tell(
         alloc,
@@ -106,11 +107,11 @@ pub fn explain_dump(
     ensures explains { Asks 0 plan_in (ExplainsBy options bytes.now out.old out.new) (out.new ≡ out.old) h.old.kept result }
 {
     let Some(kept) = h.take(alloc) else {
-        return Answer::bare(10, 0);
+        return Answer::bare(status::EMPTY_HANDLE, 0);
     };
     let answer = match as_plan(kept.as_ref()) {
         Some(plan) => tell_shared(alloc, plan, bytes, options, out),
-        None => Answer::bare(255, 0),
+        None => Answer::bare(status::WRONG_HANDLE, 0),
     };
     h.put_back(kept);
     answer

@@ -7,6 +7,7 @@ use crate::answer::Answer;
 use crate::handle::Handle;
 use crate::kept::Kept;
 use crate::pages::{Has, Paging};
+use crate::status;
 use first_touch::{NotHad, TurnFault};
 use std::alloc::Global;
 use std::mem::replace;
@@ -18,21 +19,21 @@ fn claim(pages: &mut Paging, page: u64) -> Answer
     ensures claims { Claims page (paged pages.old) (paged pages.new) result }
 {
     if let Some(own) = pages.has.page() {
-        return Answer::bare(196, own as u64);
+        return Answer::bare(status::TURN_TAKEN, own as u64);
     }
     match (&*pages.turns).claim(page as usize) {
         Ok(turn) => {
             pages.has = Has::Turn(turn);
             Answer::done(0)
         }
-        Err(NotHad::NoSuchPage) => Answer::bare(12, page),
+        Err(NotHad::NoSuchPage) => Answer::bare(status::NO_SUCH_PAGE, page),
         Err(NotHad::Home(home)) => {
             pages.has = Has::Home(home);
-            Answer::bare(194, page)
+            Answer::bare(status::PAGE_HOME, page)
         }
         Err(NotHad::Busy(sight)) => {
             pages.has = Has::Sight(sight);
-            Answer::bare(195, page)
+            Answer::bare(status::PAGE_BUSY, page)
         }
     }
 }
@@ -44,11 +45,11 @@ pub fn claim_page(alloc: Global, h: &mut Handle, page: u64) -> Answer
     ensures { Touches (Claims page) (Unit {0}) h.old.kept h.new.kept result }
 {
     let Some(mut kept) = h.take(alloc) else {
-        return Answer::bare(10, 0);
+        return Answer::bare(status::EMPTY_HANDLE, 0);
     };
     let answer = match kept.as_mut() {
         Kept::Pages(pages) => claim(pages, page),
-        _ => Answer::bare(255, 0),
+        _ => Answer::bare(status::WRONG_HANDLE, 0),
     };
     h.put_back(kept);
     answer
@@ -59,7 +60,7 @@ fn unbuilt(fault: TurnFault) -> Answer
     ensures { result ≡ of_turn fault }
 {
     match fault {
-        TurnFault::OtherRoom(room) => Answer::bare(199, room),
+        TurnFault::OtherRoom(room) => Answer::bare(status::OTHER_LENGTH, room),
         TurnFault::Slide(fault) => Answer::unslid(fault),
     }
 }
@@ -83,7 +84,7 @@ fn build(pages: &mut Paging, words: &[u64], page: &mut [u64]) -> Answer
         },
         other => {
             pages.has = other;
-            Answer::bare(198, 0)
+            Answer::bare(status::NO_TURN, 0)
         }
     }
 }
@@ -96,11 +97,11 @@ pub fn build_page(alloc: Global, h: &mut Handle, words: &[u64], page: &mut [u64]
     ensures { Touches (Builds words.now page.old page.new) (page.new ≡ page.old) h.old.kept h.new.kept result }
 {
     let Some(mut kept) = h.take(alloc) else {
-        return Answer::bare(10, 0);
+        return Answer::bare(status::EMPTY_HANDLE, 0);
     };
     let answer = match kept.as_mut() {
         Kept::Pages(pages) => build(pages, words, page),
-        _ => Answer::bare(255, 0),
+        _ => Answer::bare(status::WRONG_HANDLE, 0),
     };
     h.put_back(kept);
     answer
@@ -120,11 +121,11 @@ fn publish(pages: &mut Paging) -> Answer
         Has::Turn(turn) => {
             let page = turn.page() as u64;
             pages.has = Has::Turn(turn);
-            Answer::bare(20, page)
+            Answer::bare(status::NOT_BUILT, page)
         }
         other => {
             pages.has = other;
-            Answer::bare(198, 0)
+            Answer::bare(status::NO_TURN, 0)
         }
     }
 }
@@ -135,11 +136,11 @@ pub fn publish_page(alloc: Global, h: &mut Handle) -> Answer
     ensures { Touches Publishes (Unit {0}) h.old.kept h.new.kept result }
 {
     let Some(mut kept) = h.take(alloc) else {
-        return Answer::bare(10, 0);
+        return Answer::bare(status::EMPTY_HANDLE, 0);
     };
     let answer = match kept.as_mut() {
         Kept::Pages(pages) => publish(pages),
-        _ => Answer::bare(255, 0),
+        _ => Answer::bare(status::WRONG_HANDLE, 0),
     };
     h.put_back(kept);
     answer

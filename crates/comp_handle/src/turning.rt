@@ -14,6 +14,7 @@ use crate::kept::Kept;
 use crate::kinds::{into_crew, into_end, into_heap};
 use crate::making::copied_marks;
 use crate::opening::{Opened, Turned, is_full, open, settle};
+use crate::status;
 use comp_crew::{Ended, FinishFault, finish};
 use heap_layout::{LayoutFault, MarkedHeap, check_sizes};
 use page_plan::Plan;
@@ -40,14 +41,14 @@ fn planned(alloc: Global, kept: Kept, full: bool) -> Turned
 {
     let heap = match into_heap(kept) {
         Ok(heap) => heap,
-        Err(kept) => return Turned::stays(kept, Answer::bare(255, 0)),
+        Err(kept) => return Turned::stays(kept, Answer::bare(status::WRONG_HANDLE, 0)),
     };
     if full {
-        return Turned::stays(Kept::Heap(heap), Answer::bare(11, 1));
+        return Turned::stays(Kept::Heap(heap), Answer::bare(status::NOT_EMPTY, 1));
     }
     match plan_for(alloc, heap) {
         Ok(plan) => Turned::gone(Kept::Plan(plan), 0),
-        Err(heap) => Turned::stays(Kept::Heap(heap), Answer::bare(9, 0)),
+        Err(heap) => Turned::stays(Kept::Heap(heap), Answer::bare(status::OUT_OF_MEMORY, 0)),
     }
 }
 
@@ -58,7 +59,7 @@ pub fn plan_heap(alloc: Global, heap: &mut Handle, plan: &mut Handle) -> Answer
 {
     let full = is_full(alloc, plan);
     let Some(Opened { room, kept }) = open(alloc, heap) else {
-        return Answer::bare(10, 0);
+        return Answer::bare(status::EMPTY_HANDLE, 0);
     };
     let turned = planned(alloc, kept, full);
     settle(heap, plan, room, turned)
@@ -69,9 +70,9 @@ fn unfinished(fault: FinishFault) -> Answer
     ensures { result ≡ of_finish fault }
 {
     match fault {
-        FinishFault::OutOfMemory => Answer::bare(9, 0),
-        FinishFault::MutatorMissing(k) => Answer::bare(16, u64::from(k)),
-        FinishFault::StillShared => Answer::bare(28, 0),
+        FinishFault::OutOfMemory => Answer::bare(status::OUT_OF_MEMORY, 0),
+        FinishFault::MutatorMissing(k) => Answer::bare(status::MUTATOR_MISSING, u64::from(k)),
+        FinishFault::StillShared => Answer::bare(status::STILL_SHARED, 0),
     }
 }
 
@@ -83,10 +84,10 @@ fn finished(alloc: Global, kept: Kept, full: bool) -> Turned
 {
     let bench = match into_crew(kept) {
         Ok(bench) => bench,
-        Err(kept) => return Turned::stays(kept, Answer::bare(255, 0)),
+        Err(kept) => return Turned::stays(kept, Answer::bare(status::WRONG_HANDLE, 0)),
     };
     if full {
-        return Turned::stays(Kept::Crew(bench), Answer::bare(11, 1));
+        return Turned::stays(Kept::Crew(bench), Answer::bare(status::NOT_EMPTY, 1));
     }
     match finish(alloc, bench) {
         Ok(ended) => {
@@ -104,7 +105,7 @@ pub fn finish_crew(alloc: Global, crew: &mut Handle, end: &mut Handle) -> Answer
 {
     let full = is_full(alloc, end);
     let Some(Opened { room, kept }) = open(alloc, crew) else {
-        return Answer::bare(10, 0);
+        return Answer::bare(status::EMPTY_HANDLE, 0);
     };
     let turned = finished(alloc, kept, full);
     settle(crew, end, room, turned)
@@ -152,10 +153,10 @@ fn followed(alloc: Global, kept: Kept, full: bool, marks: &[u32], roots: &[u64])
 {
     let ended = match into_end(kept) {
         Ok(ended) => ended,
-        Err(kept) => return Turned::stays(kept, Answer::bare(255, 0)),
+        Err(kept) => return Turned::stays(kept, Answer::bare(status::WRONG_HANDLE, 0)),
     };
     if full {
-        return Turned::stays(Kept::Ended(ended), Answer::bare(11, 1));
+        return Turned::stays(Kept::Ended(ended), Answer::bare(status::NOT_EMPTY, 1));
     }
     next_with(alloc, ended, marks, roots)
 }
@@ -175,7 +176,7 @@ pub fn follow(
 {
     let full = is_full(alloc, heap);
     let Some(Opened { room, kept }) = open(alloc, end) else {
-        return Answer::bare(10, 0);
+        return Answer::bare(status::EMPTY_HANDLE, 0);
     };
     let turned = followed(alloc, kept, full, marks, roots);
     settle(end, heap, room, turned)
@@ -189,10 +190,10 @@ fn reached(alloc: Global, kept: Kept, full: bool, roots: &[u64]) -> Turned
 {
     let ended = match into_end(kept) {
         Ok(ended) => ended,
-        Err(kept) => return Turned::stays(kept, Answer::bare(255, 0)),
+        Err(kept) => return Turned::stays(kept, Answer::bare(status::WRONG_HANDLE, 0)),
     };
     if full {
-        return Turned::stays(Kept::Ended(ended), Answer::bare(11, 1));
+        return Turned::stays(Kept::Ended(ended), Answer::bare(status::NOT_EMPTY, 1));
     }
     match ended.next_reached(alloc, roots) {
         Ok(heap) => Turned::gone(Kept::Heap(heap), 0),
@@ -200,13 +201,14 @@ fn reached(alloc: Global, kept: Kept, full: bool, roots: &[u64]) -> Turned
     }
 }
 
-/// The same without marks: exactly the objects are marked that the roots reach.
+/// Makes the heap with which the next cycle begins, as `follow` does by marks: exactly the objects are marked that the
+/// roots reach.
 pub fn follow_reached(alloc: Global, end: &mut Handle, roots: &[u64], heap: &mut Handle) -> Answer
     ensures { Turns end_in (FollowsReached roots.now) (IsUnreached roots.now) end.old.kept end.new.kept heap.old.kept heap.new.kept result }
 {
     let full = is_full(alloc, heap);
     let Some(Opened { room, kept }) = open(alloc, end) else {
-        return Answer::bare(10, 0);
+        return Answer::bare(status::EMPTY_HANDLE, 0);
     };
     let turned = reached(alloc, kept, full, roots);
     settle(end, heap, room, turned)

@@ -8,6 +8,7 @@ use crate::handle::Handle;
 use crate::kept::Kept;
 use crate::kinds::as_old;
 use crate::opening::{is_full, keep};
+use crate::status;
 use heap_layout::{Edition, edition_of};
 use std::alloc::Global;
 use young_heap::{OldFault, OldTables, YoungFault};
@@ -18,15 +19,15 @@ pub fn reserve_old(alloc: Global, words: u64, h: &mut Handle) -> Answer
     ensures { Fills 0 (ReservesOld words) (Unit {0}) h.old.kept h.new.kept result }
 {
     if is_full(alloc, h) {
-        return Answer::bare(11, 0);
+        return Answer::bare(status::NOT_EMPTY, 0);
     }
     let Ok(made) = OldTables::reserve(alloc, words as usize) else {
-        return Answer::bare(9, 0);
+        return Answer::bare(status::OUT_OF_MEMORY, 0);
     };
     if keep(alloc, h, Kept::Old(made)) {
         Answer::done(0)
     } else {
-        Answer::bare(9, 0)
+        Answer::bare(status::OUT_OF_MEMORY, 0)
     }
 }
 
@@ -44,11 +45,11 @@ pub fn watermark(alloc: Global, h: &mut Handle) -> Answer
     ensures says { Asks 0 old_in SaysWatermark (Unit {0}) h.old.kept result }
 {
     let Some(kept) = h.take(alloc) else {
-        return Answer::bare(10, 0);
+        return Answer::bare(status::EMPTY_HANDLE, 0);
     };
     let answer = match as_old(kept.as_ref()) {
         Some(tables) => say_watermark(tables),
-        None => Answer::bare(255, 0),
+        None => Answer::bare(status::WRONG_HANDLE, 0),
     };
     h.put_back(kept);
     answer
@@ -59,11 +60,11 @@ pub(crate) fn uncollected(fault: YoungFault) -> Answer
     ensures { result ≡ of_young fault }
 {
     match fault {
-        YoungFault::TooLarge => Answer::bare(33, 0),
-        YoungFault::ShortTables(room) => Answer::bare(30, room),
-        YoungFault::FewWords(watermark) => Answer::bare(221, watermark),
-        YoungFault::FewCards(count) => Answer::bare(222, count),
-        YoungFault::NotAField(i) => Answer::bare(223, i),
+        YoungFault::TooLarge => Answer::bare(status::TOO_LARGE, 0),
+        YoungFault::ShortTables(room) => Answer::bare(status::SHORT_TABLES, room),
+        YoungFault::FewWords(watermark) => Answer::bare(status::FEW_WORDS, watermark),
+        YoungFault::FewCards(count) => Answer::bare(status::FEW_CARDS, count),
+        YoungFault::NotAField(i) => Answer::bare(status::NOT_A_FIELD, i),
         YoungFault::Survey(fault) => Answer::unsurveyed(fault),
     }
 }
@@ -94,7 +95,7 @@ fn collect_all_by(
 {
     match edition_of(edition, true) {
         Some(found) => collect_all_of(tables, found, words, roots),
-        None => Answer::bare(19, u64::from(edition)),
+        None => Answer::bare(status::BAD_EDITION, u64::from(edition)),
     }
 }
 
@@ -112,11 +113,11 @@ pub fn collect_all(
     ensures { ChangesOld (CollectsAll edition words.old words.new roots.old roots.new) ((words.new ≡ words.old) × (roots.new ≡ roots.old)) h.old.kept h.new.kept result }
 {
     let Some(mut kept) = h.take(alloc) else {
-        return Answer::bare(10, 0);
+        return Answer::bare(status::EMPTY_HANDLE, 0);
     };
     let answer = match kept.as_mut() {
         Kept::Old(tables) => collect_all_by(tables, edition, words, roots),
-        _ => Answer::bare(255, 0),
+        _ => Answer::bare(status::WRONG_HANDLE, 0),
     };
     h.put_back(kept);
     answer
@@ -150,7 +151,7 @@ fn collect_young_in(
 {
     match edition_of(edition, true) {
         Some(found) => collect_young_of(tables, found, words, cards, roots),
-        None => Answer::bare(19, u64::from(edition)),
+        None => Answer::bare(status::BAD_EDITION, u64::from(edition)),
     }
 }
 
@@ -170,11 +171,11 @@ pub fn collect_young(
     ensures { ChangesOld (CollectsYoung edition words.old words.new cards.now roots.old roots.new) ((words.new ≡ words.old) × (roots.new ≡ roots.old)) h.old.kept h.new.kept result }
 {
     let Some(mut kept) = h.take(alloc) else {
-        return Answer::bare(10, 0);
+        return Answer::bare(status::EMPTY_HANDLE, 0);
     };
     let answer = match kept.as_mut() {
         Kept::Old(tables) => collect_young_in(tables, edition, words, cards, roots),
-        _ => Answer::bare(255, 0),
+        _ => Answer::bare(status::WRONG_HANDLE, 0),
     };
     h.put_back(kept);
     answer
@@ -208,13 +209,14 @@ fn collect_young_by_in(
 {
     match edition_of(edition, true) {
         Some(found) => collect_young_by_of(tables, found, words, fields, roots),
-        None => Answer::bare(19, u64::from(edition)),
+        None => Answer::bare(status::BAD_EDITION, u64::from(edition)),
     }
 }
 
-/// The same by a list in place of cards: the indices of words of old objects into which the mutators stored since the
-/// last collection, in any order, each maybe several times. They may be put into another order, also if the call is
-/// refused. In place of few cards the refusal is a listed word that is no reference and no weak word of an old object.
+/// Collects what is young, as `collect_young` does, by a list in place of cards: the indices of words of old objects
+/// into which the mutators stored since the last collection, in any order, each maybe several times. They may be put
+/// into another order, also if the call is refused. In place of few cards the refusal is a listed word that is no
+/// reference and no weak word of an old object.
 pub fn collect_young_by(
     alloc: Global,
     h: &mut Handle,
@@ -226,11 +228,11 @@ pub fn collect_young_by(
     ensures { ChangesOld (CollectsYoungBy edition words.old words.new fields.old fields.new roots.old roots.new) ((words.new ≡ words.old) × (fields.new ≡ fields.old) × (roots.new ≡ roots.old)) h.old.kept h.new.kept result }
 {
     let Some(mut kept) = h.take(alloc) else {
-        return Answer::bare(10, 0);
+        return Answer::bare(status::EMPTY_HANDLE, 0);
     };
     let answer = match kept.as_mut() {
         Kept::Old(tables) => collect_young_by_in(tables, edition, words, fields, roots),
-        _ => Answer::bare(255, 0),
+        _ => Answer::bare(status::WRONG_HANDLE, 0),
     };
     h.put_back(kept);
     answer
@@ -264,7 +266,7 @@ fn collect_aging_in(
 {
     match edition_of(edition, true) {
         Some(found) => collect_aging_of(tables, found, words, cards, roots),
-        None => Answer::bare(19, u64::from(edition)),
+        None => Answer::bare(status::BAD_EDITION, u64::from(edition)),
     }
 }
 
@@ -283,11 +285,11 @@ pub fn collect_aging(
     ensures { ChangesOld (CollectsAging edition words.old words.new cards.old cards.new roots.old roots.new) ((words.new ≡ words.old) × (cards.new ≡ cards.old) × (roots.new ≡ roots.old)) h.old.kept h.new.kept result }
 {
     let Some(mut kept) = h.take(alloc) else {
-        return Answer::bare(10, 0);
+        return Answer::bare(status::EMPTY_HANDLE, 0);
     };
     let answer = match kept.as_mut() {
         Kept::Old(tables) => collect_aging_in(tables, edition, words, cards, roots),
-        _ => Answer::bare(255, 0),
+        _ => Answer::bare(status::WRONG_HANDLE, 0),
     };
     h.put_back(kept);
     answer
@@ -298,8 +300,8 @@ fn unkept(fault: OldFault) -> Answer
     ensures { result ≡ of_old fault }
 {
     match fault {
-        OldFault::NotARow(i) => Answer::bare(224, i),
-        OldFault::LeadsAbove(i) => Answer::bare(225, i),
+        OldFault::NotARow(i) => Answer::bare(status::NOT_A_ROW, i),
+        OldFault::LeadsAbove(i) => Answer::bare(status::LEADS_ABOVE, i),
     }
 }
 
@@ -319,7 +321,7 @@ fn check_by(tables: &OldTables, edition: u32, words: &[u64], cards: &[u8]) -> An
 {
     match edition_of(edition, true) {
         Some(found) => check_of(tables, found, words, cards),
-        None => Answer::bare(19, u64::from(edition)),
+        None => Answer::bare(status::BAD_EDITION, u64::from(edition)),
     }
 }
 
@@ -330,11 +332,11 @@ pub fn check_old(alloc: Global, h: &mut Handle, edition: u32, words: &[u64], car
     ensures checks { Asks 0 old_in (ChecksOld edition words.now cards.now) (Unit {0}) h.old.kept result }
 {
     let Some(kept) = h.take(alloc) else {
-        return Answer::bare(10, 0);
+        return Answer::bare(status::EMPTY_HANDLE, 0);
     };
     let answer = match as_old(kept.as_ref()) {
         Some(tables) => check_by(tables, edition, words, cards),
-        None => Answer::bare(255, 0),
+        None => Answer::bare(status::WRONG_HANDLE, 0),
     };
     h.put_back(kept);
     answer

@@ -183,6 +183,39 @@ static void forgotten(void) {
        compressor_cards_of(TABLE + PAIR));
 }
 
+/* While C has the address of a young object, no young collection is made: the watermark goes up behind it, and it
+   stays. Then all is collected around it, the tables are put back to watermark 0 and raised to what that left, and
+   young collections go on. */
+static void pinned(void) {
+    uint64_t runs[2], pin, kept;
+    compressor_answer a;
+    put(400, 0);
+    IS(collect(COMPRESSOR_ALL) == TABLE);
+    pair(1, 0); /* dies */
+    pin = pair(2, 0);
+    put(2, pin);
+    IS(DONE(compressor_space_raise(&space, &old, cards)) == space.used && watermark() == space.used);
+    compressor_buffer_empty(&buffer);
+    IS(compressor_load(&space, table, 2) == pin && number_of(pin) == 2);
+    kept = space.used;
+    put(3, pair(3, pin)); /* the first one that is young */
+    IS(collect(COMPRESSOR_YOUNG) == kept + PAIR && compressor_load(&space, table, 2) == pin);
+    put(3, 0);
+    a = compressor_space_collect_pinned(&space, roots, 3, &pin, 1, runs, 2);
+    if (a.status == COMPRESSOR_OUT_OF_MEMORY) a = compressor_space_collect_pinned(&space, roots, 3, &pin, 1, runs, 2);
+    IS(DONE(a) == TABLE + PAIR);
+    IS(space.used == TABLE + 2 * PAIR && runs[0] == TABLE && runs[1] == TABLE + PAIR);
+    IS(DONE(compressor_collect_all(&old, EDITION, words, 0, roots, 0)) == 0 && watermark() == 0); /* nothing is old */
+    IS(REFUSED(COMPRESSOR_NOT_A_ROW, compressor_old_raise(&old, EDITION, words, ROOM, TABLE + 1)) == TABLE);
+    IS(DONE(compressor_space_raise(&space, &old, cards)) == TABLE + 2 * PAIR);
+    compressor_buffer_empty(&buffer);
+    put(4, pair(4, pair(5, pin)));
+    IS(collect(COMPRESSOR_YOUNG) == TABLE + 4 * PAIR && compressor_load(&space, table, 2) == pin);
+    put(2, 0);
+    put(4, 0);
+    IS(collect(COMPRESSOR_ALL) == TABLE);
+}
+
 int main(void) {
     uint64_t young, all;
     begin();
@@ -191,6 +224,7 @@ int main(void) {
     by_fields();
     by_age();
     forgotten();
+    pinned();
     compressor_old_return(&old);
     IS(old.at == NULL);
     printf("young: %llu collections of what is young and %llu of all; by cards, by a list of stores, by age\n",

@@ -192,16 +192,19 @@ typedef enum compressor_status {
     COMPRESSOR_MISSING_OBJECT = 212,  /* (index) a lane met this object, and it is in none of those that were joined */
     COMPRESSOR_OTHER_HEAP = 213,      /* the lanes are of two editions, or not of as many words */
     /* young collections */
-    COMPRESSOR_FEW_WORDS = 221,       /* (words) there are fewer words than the watermark */
+    COMPRESSOR_FEW_WORDS = 221,       /* (words) there are fewer words than the watermark, or than are to be old */
     COMPRESSOR_FEW_CARDS = 222,       /* (cards) so many are wanted: one for each 64 words below the watermark; of
                                          compressor_collect_aging, of the words that the last collection left */
     COMPRESSOR_NOT_A_FIELD = 223,     /* (index) it is listed, and no old object has a reference or a weak word there */
     COMPRESSOR_NOT_A_ROW = 224,       /* (index) before this word old objects lie in a row, as the last collection left
-                                         them, and here the row does not go on: a header was changed */
+                                         them, and here the row does not go on: a header was changed; of
+                                         compressor_old_raise, objects that are to be old, and no such object is here */
     COMPRESSOR_LEADS_ABOVE = 225,     /* (index of the word) it is a reference or a weak word of an old object, its card
                                          is clean, and it leads to no old object */
     /* collections around objects that stay */
     COMPRESSOR_BAD_PIN = 226,         /* (number) it is the address of none of the words; it may be null */
+    /* a watermark that is raised */
+    COMPRESSOR_BELOW_WATERMARK = 227, /* (watermark) the end is below it, and a watermark is only raised */
     COMPRESSOR_WRONG_HANDLE = 255         /* a handle of another kind: a cast, a byte that C wrote, or a survey that was
                                              to grow and is over (compressor_growing_return) */
 } compressor_status;
@@ -448,6 +451,7 @@ static inline const char *compressor_status_text(uint32_t status) {
         COMPRESSOR_CASE_(NOT_A_ROW)
         COMPRESSOR_CASE_(LEADS_ABOVE)
         COMPRESSOR_CASE_(BAD_PIN)
+        COMPRESSOR_CASE_(BELOW_WATERMARK)
         COMPRESSOR_CASE_(WRONG_HANDLE)
 #undef COMPRESSOR_CASE_
         default: return "UNKNOWN";
@@ -628,8 +632,8 @@ void compressor_growing_drop(compressor_growing *growing);
    One edition goes with the tables as long as there is a watermark; they do not know which.
    old_reserve: tables for heaps of so many words, with watermark 0. They take three bits a word, 4 bytes for each 64
    words, and 12 a word, of which a collection touches 4 for each young object that it meets, and 4 for each word on a
-   dirty card that leads to no old object. But each young collection passes over the bits and counts of all this room:
-   so reserve for some twice the words in use, and once more when they are outgrown. Memory. No call below takes any.
+   dirty card that leads to no old object. It passes over the bits and counts of the words from the watermark on that it
+   is handed, and over no others: tables may have much more room than is in use. Memory. No call below takes any.
    watermark: answers it, an index of words; 0 before the first collection.
    collect_all: as compressor_collect_in_place, whatever is old. Answers the live words, which are the watermark then:
    what lives is old. Refusals, after which words, roots and tables are as they were: BAD_EDITION; TOO_LARGE;
@@ -652,6 +656,16 @@ void compressor_growing_drop(compressor_growing *growing);
    then behind what the last collection left, and lives; what was made since then lies above. It makes the cards anew:
    just those are dirty that have a reference or a weak word of an old object that leads to no old object. FEW_CARDS:
    one for each 64 words that the last collection left is wanted. A refused call leaves the cards as they were too.
+   old_raise: collects nothing, and makes old all that lies below index `end`, dead or not, where it is. So what is
+   young and pinned stays: in place of a young collection, with the end of all that was made. And young collections go
+   on after a collection by other calls, also compressor_collect_pinned, with the end that it left, by tables of
+   watermark 0: collect_all of no words makes it 0. The words from the watermark on have to be a row of objects that
+   ends at `end`, as a bump allocator makes it, and as each collection leaves it: free runs between pins are filled with
+   objects, and are not used from then on. It reads headers alone, and no word changes. What 2 says holds for `end`
+   then: mark the cards of words of these objects that lead to it or behind; if there are none, all cards below may be
+   clean. Answers the watermark, which is `end`. Refusals, after which the tables are as they were: BAD_EDITION;
+   TOO_LARGE; SHORT_TABLES (their room); FEW_WORDS (`end`, if it is behind the words); BELOW_WATERMARK (the watermark);
+   NOT_A_ROW (the index of the first object that has more words than one may have, or that ends behind `end`).
    old_check: whether 1 and 2 are kept. It reads all old objects; a card that is not handed in is clean. Refusals:
    BAD_EDITION; a fault that is there: NOT_A_ROW, if 1 is not kept, or words are missing; LEADS_ABOVE, if 2 is not.
    old_return: frees the tables. */
@@ -667,6 +681,8 @@ compressor_answer compressor_collect_young_by(compressor_old *old, uint32_t edit
                                               uint64_t *roots, size_t root_count);
 compressor_answer compressor_collect_aging(compressor_old *old, uint32_t edition, uint64_t *words, size_t word_count,
                                            uint8_t *cards, size_t card_count, uint64_t *roots, size_t root_count);
+compressor_answer compressor_old_raise(compressor_old *old, uint32_t edition, const uint64_t *words, size_t word_count,
+                                       uint64_t end);
 compressor_answer compressor_old_check(compressor_old *old, uint32_t edition, const uint64_t *words, size_t word_count,
                                        const uint8_t *cards, size_t card_count);
 void compressor_old_return(compressor_old *old);

@@ -98,6 +98,9 @@ CALL(collect_aging,
       uint64_t *roots, size_t root_count),
      (old, edition, OUT(words, word_count), word_count, OUT(cards, card_count), card_count, OUT(roots, root_count),
       root_count))
+CALL(old_raise,
+     (compressor_old *old, uint32_t edition, const uint64_t *words, size_t word_count, uint64_t end),
+     (old, edition, IN(words, word_count), word_count, end))
 CALL(old_check,
      (compressor_old *old, uint32_t edition, const uint64_t *words, size_t word_count, const uint8_t *cards,
       size_t card_count),

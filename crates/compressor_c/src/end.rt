@@ -101,7 +101,7 @@ pub extern "C" fn compressor_c_end_next_by_marks(
     comp_handle::follow(alloc, end, marks, roots, heap)
 }
 
-/// The same without marks: exactly the objects are marked that the roots reach.
+/// Makes the heap with which the next cycle begins, with these roots: exactly the objects are marked that they reach.
 #[unsafe(no_mangle)]
 pub extern "C" fn compressor_c_end_next_by_roots(
     alloc: Global,

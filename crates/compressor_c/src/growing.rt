@@ -19,7 +19,8 @@ pub extern "C" fn compressor_c_growing_begin(
     comp_handle::begin_growing(alloc, edition, words, growing)
 }
 
-/// The same by tables that were made before. The handle of the survey keeps it then, and that of the tables is empty.
+/// Begins such a survey by tables that were made before. The handle of the survey keeps it then, and that of the tables
+/// is empty.
 #[unsafe(no_mangle)]
 pub extern "C" fn compressor_c_growing_begin_lent(
     alloc: Global,

@@ -1,5 +1,13 @@
 //! The collector for C: one export for each call of comp_handle that C makes, by the kind of what it acts on.
 //! include/compressor.h of this crate declares them.
+//!
+//! The modules, in the order in which to read them:
+//!
+//! - `heap`, `plan`: marked heaps and their plans.
+//! - `crew`, `mutator`, `end`: a flipped heap, up to its finished cycle.
+//! - `rest`, `young`, `growing`: heaps at rest, their young collections, and surveys that grow.
+//! - `job`, `marking`, `looks`, `lane`: how they are marked by several threads, or while threads go on.
+//! - `pages`: their slide by first touch.
 #![tactic(auto)]
 
 mod crew;

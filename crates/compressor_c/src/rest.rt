@@ -24,7 +24,7 @@ pub extern "C" fn compressor_c_collect(
     comp_handle::collect(alloc, edition, words, roots, to)
 }
 
-/// The same within the words.
+/// Collects the heap of these words and roots, of this edition, 1 to 4, within the words.
 #[unsafe(no_mangle)]
 pub extern "C" fn compressor_c_collect_in_place(
     alloc: Global,
@@ -37,7 +37,7 @@ pub extern "C" fn compressor_c_collect_in_place(
     comp_handle::collect_in_place(alloc, edition, words, roots)
 }
 
-/// The same within the words around objects that stay where they are.
+/// Collects the heap of these words and roots within the words, around pinned objects, which stay where they are.
 #[unsafe(no_mangle)]
 pub extern "C" fn compressor_c_collect_pinned(
     alloc: Global,
@@ -69,7 +69,7 @@ pub extern "C" fn compressor_c_collect_lent(
     comp_handle::collect_lent(alloc, tables, edition, words, roots, to)
 }
 
-/// The same within the words.
+/// Collects the heap of these words and roots within the words, by tables that were made before.
 #[unsafe(no_mangle)]
 pub extern "C" fn compressor_c_collect_in_place_lent(
     alloc: Global,
@@ -98,7 +98,7 @@ pub extern "C" fn compressor_c_survey_by_roots(
     comp_handle::survey_by_roots(alloc, edition, words, roots, survey)
 }
 
-/// The same by marks of the caller's own, a bit for each word.
+/// Surveys the heap of these words and roots by marks of the caller's own, a bit for each word.
 #[unsafe(no_mangle)]
 pub extern "C" fn compressor_c_survey_by_marks(
     alloc: Global,
@@ -113,8 +113,8 @@ pub extern "C" fn compressor_c_survey_by_marks(
     comp_handle::survey_by_marks(alloc, edition, words, roots, marks, survey)
 }
 
-/// The same by bits of the caller's own, of the first words of objects and of all their words, with no look at the words
-/// of the heap.
+/// Surveys a heap by bits of the caller's own, of the first words of objects and of all their words, with no look at
+/// the words of the heap.
 #[unsafe(no_mangle)]
 pub extern "C" fn compressor_c_survey_by_bits(
     alloc: Global,
@@ -218,7 +218,8 @@ pub extern "C" fn compressor_c_survey_forward(
     comp_handle::forward_survey(alloc, survey, roots)
 }
 
-/// The same of weak words: one that leads to no live object becomes null.
+/// Makes weak words lead to where their objects are after the collection: one that leads to no live object becomes
+/// null.
 #[unsafe(no_mangle)]
 pub extern "C" fn compressor_c_survey_forward_weak(
     alloc: Global,

@@ -1,6 +1,7 @@
 //! Exports for young collections of a heap at rest, by tables that know a watermark.
 ghost use Rattle.std.specs.Prelude.{◌≡◌, None};
 ghost use Rattle.comp_handle.specs.HandleKinds.{old_in, Asks, Fills};
+ghost use Rattle.comp_handle.specs.Raising.{Raises};
 ghost use Rattle.comp_handle.specs.Young.{ChangesOld, ChecksOld, CollectsAging, CollectsAll, CollectsYoung, CollectsYoungBy, ReservesOld, SaysWatermark};
 
 use comp_handle::{Answer, Handle};
@@ -52,7 +53,7 @@ pub extern "C" fn compressor_c_collect_young(
     comp_handle::collect_young(alloc, old, edition, words, cards, roots)
 }
 
-/// The same by a list of the words of old objects into which was stored, in place of cards.
+/// Collects what is young of it, by a list of the words of old objects into which was stored, in place of cards.
 #[unsafe(no_mangle)]
 pub extern "C" fn compressor_c_collect_young_by(
     alloc: Global,
@@ -80,6 +81,20 @@ pub extern "C" fn compressor_c_collect_aging(
     ensures { ChangesOld (CollectsAging edition words.old words.new cards.old cards.new roots.old roots.new) ((words.new ≡ words.old) × (cards.new ≡ cards.old) × (roots.new ≡ roots.old)) old.old.kept old.new.kept result }
 {
     comp_handle::collect_aging(alloc, old, edition, words, cards, roots)
+}
+
+/// Raises the watermark to word `end`: all that lies below is old then, and nothing is collected.
+#[unsafe(no_mangle)]
+pub extern "C" fn compressor_c_old_raise(
+    alloc: Global,
+    old: &mut Handle,
+    edition: u32,
+    words: &[u64],
+    end: u64,
+) -> Answer
+    ensures { ChangesOld (Raises edition words.now end) (Unit {0}) old.old.kept old.new.kept result }
+{
+    comp_handle::raise_old(alloc, old, edition, words, end)
 }
 
 /// Whether the words below the watermark are as a young collection by these cards believes.

@@ -2,6 +2,7 @@
 ghost use Rattle.std.specs.Prelude.{◌≡◌, ◌≢◌, IsTrue};
 ghost use Rattle.comp_crew.specs.declared.crew.Crew.{Crew};
 ghost use Rattle.comp_handle.specs.Answers.{bare};
+ghost use Rattle.comp_handle.specs.Statuses.{other_crew};
 ghost use Rattle.proved_crews.specs.Crews.{AreMixed, KeepsCrew};
 
 use crate::calls::{give, meet, take};
@@ -11,7 +12,7 @@ use std::alloc::Global;
 /// Hands a mutator to a crew of another name. It is refused as that of another crew, and nothing has changed.
 pub fn give_wrongly(alloc: Global, crew: &mut Handle, m: &mut Handle) -> Answer
     requires { AreMixed crew.old.kept m.old.kept }
-    ensures other { result ≡ bare 17 0 }
+    ensures other { result ≡ bare other_crew 0 }
     ensures same { (crew.new.kept ≡ crew.old.kept) × (m.new.kept ≡ m.old.kept) }
 {
     give_member(alloc, crew, m)
@@ -59,7 +60,9 @@ fn mix(
     give(alloc, first, m)
 }
 
-/// The same, with handles of its own for the mutators.
+/// Takes two mutators out of the first crew, lets them meet, and hands one of the second crew to the first: that is
+/// refused. Then each goes back to its own crew. Answers whether all that is allowed was done. The handles of the
+/// mutators are its own.
 pub fn mix_up(alloc: Global, first: &mut Handle, second: &mut Handle) -> bool
     requires { (c : Crew) × (d : Crew) × KeepsCrew c first.old.kept × KeepsCrew d second.old.kept × (c.name ≢ d.name) }
     ensures first { IsTrue result → (c : Crew) → KeepsCrew c first.old.kept → KeepsCrew c first.new.kept }

@@ -179,6 +179,21 @@ impl OldTables {
         })
     }
 
+    /// Collects nothing, and makes old all that lies below index `end`, dead or not, where it is. The words from the
+    /// watermark up to `end` are a row of objects, of which it reads the headers alone. Of their words those that lead
+    /// to no old object have to be on dirty cards then; there are none, if `end` is that of all objects. The answer is
+    /// the watermark, `end`.
+    ///
+    /// # Errors
+    /// After each all is as it was. `TooLarge`; `ShortTables`; `FewWords`; `BelowWatermark`; or `NotARow`, where an
+    /// object ends behind `end`.
+    pub fn raise(&mut self, edition: Edition, words: &[u64], end: u64) -> Result<u64, Refusal> {
+        // SAFETY: the array is a slice.
+        told(unsafe {
+            sys::compressor_old_raise(&mut self.0, edition as u32, words.as_ptr(), words.len(), end)
+        })
+    }
+
     /// For debugging: whether what young collections believe is so. It reads all old objects.
     ///
     /// # Errors

@@ -10,7 +10,8 @@ use crate::{sys, Refusal, Shape, Value};
 /// Objects of a space that stay where they are, each as long as a [`Pin`] of it lives: since C has its address, or a
 /// call of the system fills its words.
 ///
-/// Only [`Space::collect_pinned`] knows them: collect by no other call while one lives, and turn no space then.
+/// Only [`Space::collect_pinned`] knows them: while one lives collect by no other call, but what is young, once
+/// [`Space::raise`] has raised the watermark behind them; and turn no space then.
 #[derive(Debug, Default)]
 pub struct Pins {
     objects: RefCell<Vec<Value>>,

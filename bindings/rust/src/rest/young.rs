@@ -72,6 +72,27 @@ impl Space<'_> {
         })
     }
 
+    /// Raises the watermark behind all objects ([`OldTables::raise`]), with no collection: they are old then, and stay
+    /// where they are, with what is pinned among them; the cards are clean. Runs that a collection around pins left are
+    /// not used any more, until the next one. So pins and young collections go together: while something young is
+    /// pinned, this comes in place of a young collection; and it comes after
+    /// [`collect_pinned`](Space::collect_pinned), once [`OldTables::collect_all`] of no words has made the watermark 0.
+    ///
+    /// # Errors
+    /// As there, and a space that was turned is turned back.
+    pub fn raise(
+        &mut self,
+        old: &mut OldTables,
+        cards: &mut Cards,
+        roots: &mut [Value],
+    ) -> Result<u64, Refusal> {
+        self.collect_by(roots, |edition, words, _| {
+            let watermark = old.raise(edition, words, words.len() as u64)?;
+            cards.clean();
+            Ok(watermark)
+        })
+    }
+
     /// Sets the limit after each collection by tables that know a watermark. It is time to collect again when `nursery`
     /// words more are used, or, if it is 0, when the room is; but a sixteenth of the room stays above the limit
     /// ([`limit_by`](Space::limit_by)). Answers how many words more may be used until then. `None` if there are none:

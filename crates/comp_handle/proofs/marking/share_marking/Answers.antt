@@ -1,5 +1,6 @@
 use Rattle.std.proofs.Common.{◌≡◌, ◌⊎◌, inl, Option, Some, None, MatchOption, ap, refl, subst, sym}
 use Rattle.comp_handle.specs.Answers.{bare, done}
+use Rattle.comp_handle.specs.Statuses.{out_of_memory}
 use Rattle.comp_handle.specs.HandleKinds.{marking_in}
 use Rattle.comp_handle.specs.Knowing.{knowing, Knowing}
 use Rattle.comp_handle.specs.Marking.{KeepsMarking, KnowsBegun, SharesMarking}
@@ -12,7 +13,7 @@ use Rattle.comp_handle.proofs.marking.share_marking.Goals as goal
 
 -- a share of what was kept is kept
 shared : (N : Type 0) (o : Option Knowing) (own : Marker) (now : Option Kept) (a : Answer) → MatchOption o ⊥ (λ m. KnowsBegun m.begun (knowing own))
-    → now ≡ Some (kept.Marking own) → a ≡ done 0 → MatchOption o N (λ m. (KeepsMarking m.begun now × (a ≡ done 0)) ⊎ ((now ≡ None) × (a ≡ bare 9 0)))
+    → now ≡ Some (kept.Marking own) → a ≡ done 0 → MatchOption o N (λ m. (KeepsMarking m.begun now × (a ≡ done 0)) ⊎ ((now ≡ None) × (a ≡ bare out_of_memory 0)))
 shared N None own now a h is d = absurd h
 shared N (Some m) own now a h is d = inl ((knowing own, ap marking_in is, h), d)
 
