@@ -1,4 +1,13 @@
 //! What all commands use: refusals, the files that are read and made, and printing.
+//!
+//! The modules, in the order in which to read them:
+//!
+//! - `refusal`, `wording`, `print`: refusals, their lines, and how all is printed.
+//! - `flushed`, `parts`, `output_files`, `opening`, `keeping`: files that are read, written and kept.
+//! - `texts`, `whole`, `reading`: how a file is read.
+//! - `images`, `traces`, `marks`, `roots`, `program`: the files that are read, by their kind.
+//! - `made`: the files that are made.
+//! - `memory`: files in memory.
 #![tactic(auto)]
 
 mod flushed;

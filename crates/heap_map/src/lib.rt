@@ -1,4 +1,12 @@
 //! The picture of a heap: from-space above and to-space below, as an SVG.
+//!
+//! The modules, in the order in which to read them:
+//!
+//! - `layout`, `laws`, `grid`, `frame`: which word goes to which cell, and where all stands.
+//! - `palette`, `markup`: colours and text.
+//! - `words`, `pages`: a heap in cells of words, and in cells of pages.
+//! - `view`, `made`, `dumped`, `dumped_cells`, `faulty`: a dump so, with the fault that its audit found.
+//! - `arrows`, `legend`, `drawing`: what leads where, the head, and the whole picture.
 #![tactic(auto)]
 
 mod arrows;

@@ -1,6 +1,13 @@
 //! The judge of any collection that moves objects: copying, mark-compact in any order, evacuation by regions. It is
 //! given a marked heap, and what the collection left: the new place of each marked object, the roots, and the words of
 //! to-space. These can be read from a file.
+//!
+//! The modules, in the order in which to read them:
+//!
+//! - `moved_heap`, `reading`: what is judged, and how it is read.
+//! - `fault`, `index`, `leading`: what may be wrong, and where words lead after the move.
+//! - `head`, `places`, `overlaps`, `roots`, `whole`: the five checks.
+//! - `judging`, `laws`: the judgement, and what follows of it.
 #![tactic(auto)]
 
 mod fault;

@@ -1,5 +1,12 @@
 //! What a caller can conclude from the contracts and the laws of these crates, and from nothing else: from the layout
 //! of heaps up to the mutators, the sweep, traces, the audit and the program.
+//!
+//! The modules, by what they conclude:
+//!
+//! - `images`, `built`, `states`, `journals`: of an image, a page and its cell.
+//! - `alone`, `copied`, `meetings`, `counted`, `swept`: of mutators, their ledger and the sweep.
+//! - `bases`, `lives`, `audits`: of finished heaps, the next ones and their dumps.
+//! - `replayed`, `memory`, `program`: of traces, commands and the program.
 #![tactic(auto)]
 
 mod alone;

@@ -118,9 +118,9 @@ fn remarked_with(
     }
 }
 
-/// The same heap, with exactly the objects marked that its roots reach, in place of those that were marked. The heap
-/// that is read stays as it is; its words and roots are copied, and not checked again. Err if memory runs out, and
-/// never otherwise.
+/// This heap with exactly the objects marked that its roots reach, in place of those that were marked. The heap that is
+/// read stays as it is; its words and roots are copied, and not checked again. Err if memory runs out, and never
+/// otherwise.
 pub fn remarked_heap(alloc: Global, heap: &MarkedHeap) -> Result<MarkedHeap, OutOfMemory>
     ensures made { IfOk result (λ next. next ≡ record { edition = heap.now.edition; words = heap.now.words; marks = next.marks; roots = heap.now.roots }) }
     ensures reachable { IfOk result (λ next. AreReachable heap.now.edition heap.now.words heap.now.roots next.marks) }

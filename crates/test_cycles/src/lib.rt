@@ -1,5 +1,13 @@
 //! Cycles, one after another: the next heap, its image, and refused marks, with expected values from outside; and
 //! chains and long lives of pseudorandom cycles, compared with a plain model whose objects never move.
+//!
+//! The modules, by what they try:
+//!
+//! - `expected`, `plain_life`: checks, and the plain model.
+//! - `next_heaps`, `three_objects`, `weak_words`, `images`, `limits`: the next heap and its image.
+//! - `mark_texts`, `new_roots`, `reachable_marks`, `threads`: how it is marked.
+//! - `past_cycles`, `random_chains`, `long_life`, `audited_cycles`: cycles in a row.
+//! - `refused_memory`: memory that is refused.
 #![tactic(auto)]
 
 #[cfg(test)]

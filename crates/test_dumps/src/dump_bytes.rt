@@ -28,7 +28,7 @@ pub enum Whole {
     Nothing,
     /// The dump of the smallest heap, whose page one mutator touched: 569 bytes.
     Smallest,
-    /// The same dump, all bytes by hand.
+    /// The dump of the smallest heap, all bytes by hand.
     Touched,
     /// The dump of the three objects after one mutator stored a new object in the last. The new object is on the first
     /// of two fresh pages: 1,129 bytes.

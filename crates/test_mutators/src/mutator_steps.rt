@@ -57,7 +57,7 @@ pub enum MutatorStep {
     /// Writes into the first data word of the first object: the first value, which counts up, and the number of writes.
     /// They wait, and must succeed.
     Writes(u64, u64),
-    /// The same writes without waiting.
+    /// Such writes as those of `Writes`, without waiting.
     WritesAtOnce(u64, u64),
     /// Reads of that word without waiting, this many. Each answers 11 or a value of `WritesAtOnce(100, 1_024)`, and
     /// none is less than the one before.

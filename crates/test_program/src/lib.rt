@@ -1,5 +1,14 @@
 //! The words of a line and the task that they ask for, and runs of the program: output, standard error, files and
 //! refusals, also with an output that takes a limited number of bytes, with expected values from outside.
+//!
+//! The modules, by what they try:
+//!
+//! - `asked_tasks`, `misused_words`: words and tasks.
+//! - `taken_steps`, `all_runs`: how the tables of runs are run.
+//! - `word_plan_and_compact_runs`, `collect_runs`, `mark_runs`, `moved_runs`, `map_runs`, `audit_runs`,
+//!   `whole_and_words_audits`, `replay_runs`, `race_runs`, `next_runs`, `reachable_runs`: runs by command.
+//! - `edition_two_runs`, `edition_three_runs`, `edition_four_runs`: runs by edition.
+//! - `begun_runs`, `narrow_outputs`: how runs begin, and outputs that fail.
 #![tactic(auto)]
 
 #[cfg(test)]

@@ -26,7 +26,7 @@ pub enum Content {
     EmptyImage,
     /// The image of the three objects.
     ThreeImage,
-    /// The same image with a root that refers to no object.
+    /// The image of the three objects with a root that refers to no object.
     BadRootImage,
     /// The image of the three objects with all three marked, and two changes.
     ForgedImage(Change, Change),
@@ -34,7 +34,7 @@ pub enum Content {
     TwentyImage,
     /// The image of the three objects of edition two. The first object has two weak words.
     WeakImage,
-    /// The same image with this number as its first weak word.
+    /// The image of the three objects of edition two with this number as its first weak word.
     BadWeakImage(u64),
     /// The dump after the run that makes a new object.
     FreshDump,
@@ -52,7 +52,7 @@ pub enum Content {
     LargeDump,
     /// The image of the same three objects in edition four, with immediates as a weak word and as a root.
     ImmediatesImage,
-    /// The same image with this number as its first weak word.
+    /// The image with immediates, with this number as its first weak word.
     BadImmediatesImage(u64),
     /// A trace that writes an immediate of its own into a reference, and the root that is an immediate into a weak
     /// word, and shows the data word of the first object.
@@ -75,7 +75,7 @@ pub enum Content {
     UnbuiltDump(Change),
     /// The words of the three objects after sliding, with a change.
     ThreeWords(Change),
-    /// The same words with a word 0 after them.
+    /// The words of the three objects after sliding, with a word 0 after them.
     LongerWords,
     /// The words of the three objects of edition two after sliding, in edition three.
     LargeWords,

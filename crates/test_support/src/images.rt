@@ -279,7 +279,7 @@ pub const THREE_WORDS: [Part; 4] = [
     SLID_OBJECTS,
 ];
 
-/// The same words with a word 0 after them.
+/// The words of the three objects after sliding, with their root and a word 0 after them.
 pub const LONGER_WORDS: [Part; 5] = [
     Part::Bytes(b"COMPWORD"),
     Part::Numbers(&[1, 5, 1]),

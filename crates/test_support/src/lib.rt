@@ -2,6 +2,16 @@
 //! against which tests compare mutators; images, dumps and changes of them; writers that fail; and runs of the program.
 //! No contract says anything about them: a test asserts what it needs of them. The builders build the pages that
 //! sliding compaction defines.
+//!
+//! The modules, by what they hold:
+//!
+//! - `at`, `call`, `random`: where a test is, calls, and pseudorandom numbers.
+//! - `heaps`, `larger_heaps`, `many_fields`, `two_live_objects`, `worked`: heaps.
+//! - `object`, `objects`, `pages`: the plain model.
+//! - `builders`: builders of pages.
+//! - `images`, `parts`, `contents`, `changes`: the bytes of files, and changes of them.
+//! - `readers`, `writers`: devices that fail.
+//! - `runs`, `steps`: runs of the program.
 #![tactic(auto)]
 
 mod at;

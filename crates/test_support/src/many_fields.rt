@@ -80,8 +80,8 @@ pub fn immediates(alloc: Global) -> Option<MarkedHeap> {
     heap_of(alloc, Edition::Four, &WEAK, &[0, 5], &roots)
 }
 
-/// The same objects with this many roots. Number 65,536 and number 69,999 refer to the last object; all others are
-/// null.
+/// The three objects of `WEAK` in edition three with this many roots. Number 65,536 and number 69,999 refer to the last
+/// object; all others are null.
 pub fn many_roots(alloc: Global, count: u32) -> Option<MarkedHeap> {
     let mut roots = zeros(alloc, count as usize).ok()?;
     put(&mut roots, &FAR_ROOTS);

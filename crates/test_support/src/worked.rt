@@ -26,7 +26,7 @@ pub enum Worked {
     Seventeen,
     /// An object without references and with this many data words, which count from 1.
     Counting(u16),
-    /// The same object, not marked.
+    /// An object as that of `Counting`, not marked.
     Unmarked(u16),
     /// An object without references and with this many data words, which are 0.
     Zeros(u16),
@@ -44,7 +44,8 @@ pub enum Worked {
     Mixed,
     /// The three objects of edition two, in edition four, with a second root that is the immediate with payload 5.
     Immediates,
-    /// The same objects with this many roots, of which number 65,536 and number 69,999 refer to the last object.
+    /// The three objects of edition two, in edition three, with this many roots, of which number 65,536 and number
+    /// 69,999 refer to the last object.
     ManyRoots(u32),
     /// Three objects of edition three with 70,000 references, data words and weak words, after one that is not marked.
     ManyFields,

@@ -31,7 +31,7 @@ pub enum Mode {
 pub enum Shape {
     /// A binary tree of the live objects, in an order that looks as if it were drawn.
     Drawn,
-    /// The same level by level, as they lie.
+    /// A binary tree of the live objects, level by level, as they lie.
     Levels,
     /// A binary tree of all objects, each subtree behind its parent.
     Tree,
