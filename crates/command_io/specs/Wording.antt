@@ -16,8 +16,8 @@ use Rattle.comp_dump.specs.declared.fault.AuditFault.{AuditFault}
 use Rattle.comp_dump.specs.declared.fault.AuditFault.TheVariants as audits
 use Rattle.moved_heaps.specs.declared.fault.MovedFault.{MovedFault}
 use Rattle.moved_heaps.specs.declared.fault.MovedFault.TheVariants as moves
-use Rattle.stopped_heap.specs.declared.fault.SurveyFault.{SurveyFault}
-use Rattle.stopped_heap.specs.declared.fault.SurveyFault.TheVariants as surveys
+use Rattle.rest_marks.specs.declared.fault.SurveyFault.{SurveyFault}
+use Rattle.rest_marks.specs.declared.fault.SurveyFault.TheVariants as surveys
 use Rattle.moved_heaps.specs.declared.fault.HeadPart.{HeadPart}
 use Rattle.moved_heaps.specs.declared.fault.HeadPart.TheVariants.{Edition, Places, Roots}
 use Rattle.command_io.specs.Naming.{input_name, output_name}

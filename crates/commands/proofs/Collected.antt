@@ -14,11 +14,11 @@ use Rattle.reachability.proofs.Indices.{marks-exist}
 use Rattle.reachability.proofs.Least.{accepted-least}
 use Rattle.reachability.proofs.Refusals.{memory-only}
 use Rattle.stopped_heap.specs.Collecting.{HasCollected}
-use Rattle.stopped_heap.specs.Reached.{AreReached, IsSound}
-use Rattle.stopped_heap.specs.Settled.{collected}
+use Rattle.rest_marks.specs.Reached.{AreReached, IsSound}
+use Rattle.rest_slide.specs.Settled.{collected}
 use Rattle.stopped_heap.proofs.Collected.{collected-accepted, collected-reached}
 use Rattle.stopped_heap.proofs.Once.{once}
-use Rattle.stopped_heap.proofs.Settling.{settled-all}
+use Rattle.rest_slide.proofs.Settling.{settled-all}
 use Rattle.heap_layout.proofs.Marked.{closed}
 use Rattle.stopped_heap.proofs.Rows.{marks-reached}
 use Rattle.commands.specs.CollectedHeaps.{AreLeftBy, AreSlid, IsLeftBy, IsReachedHeap}

@@ -3,8 +3,8 @@ use Rattle.std.specs.Prelude.{◌≡◌, ℕ, List, []}
 use Rattle.heap_layout.specs.declared.edition.Edition.{Edition}
 use Rattle.heap_layout.specs.Faults.{IsAccepted}
 use Rattle.heap_layout.specs.Heap.{Heap, IsStored}
-use Rattle.stopped_heap.specs.Reached.{AreReached, IsSound}
-use Rattle.stopped_heap.specs.Settled.{collected}
+use Rattle.rest_marks.specs.Reached.{AreReached, IsSound}
+use Rattle.rest_slide.specs.Settled.{collected}
 use Rattle.commands.specs.HeapTasks.{remarked, IsMarkedByRoots}
 
 -- The heap has the edition, the words and the roots of these parts, whatever their marks are. Exactly the objects are

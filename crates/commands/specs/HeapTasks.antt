@@ -8,9 +8,9 @@ use Rattle.heap_layout.specs.Faults.{IsAccepted}
 use Rattle.heap_layout.specs.Heap.{Heap, Object, live, IsStored}
 use Rattle.page_plan.specs.Sliding.{first_object, forwarded_value, live_words, page, pages, slid_words}
 use Rattle.reachability.specs.Reachable.{AreReachable, RefusesFor}
-use Rattle.stopped_heap.specs.Reached.{AreReached, IsFaultOf, IsSound}
-use Rattle.stopped_heap.specs.Settled.{collected}
-use Rattle.stopped_heap.specs.declared.fault.SurveyFault.TheVariants as surveys
+use Rattle.rest_marks.specs.Reached.{AreReached, IsFaultOf, IsSound}
+use Rattle.rest_slide.specs.Settled.{collected}
+use Rattle.rest_marks.specs.declared.fault.SurveyFault.TheVariants as surveys
 use Rattle.comp_mutator.specs.Refusal.TheVariants as mutators
 use Rattle.comp_sweep.specs.RegionSplits.{AreAllOnce}
 use Rattle.comp_sweep.specs.declared.fault.SweepFault.TheVariants as sweeps

@@ -4,18 +4,18 @@ use Rattle.heap_layout.specs.declared.fault.LayoutFault.{LayoutFault}
 use Rattle.heap_layout.specs.declared.fault.LayoutFault.TheVariants as layout
 use Rattle.comp_crew.specs.Refusal.{Refusal}
 use Rattle.comp_crew.specs.Refusal.TheVariants as refusals
-use Rattle.stopped_heap.specs.declared.fault.CollectFault.{CollectFault}
-use Rattle.stopped_heap.specs.declared.fault.CollectFault.TheVariants as collect
-use Rattle.stopped_heap.specs.declared.fault.CollectLentFault.{CollectLentFault}
-use Rattle.stopped_heap.specs.declared.fault.CollectLentFault.TheVariants as collecting
-use Rattle.stopped_heap.specs.declared.fault.LentFault.{LentFault}
-use Rattle.stopped_heap.specs.declared.fault.LentFault.TheVariants as lent
-use Rattle.stopped_heap.specs.declared.fault.MarksFault.{MarksFault}
-use Rattle.stopped_heap.specs.declared.fault.MarksFault.TheVariants as marks
-use Rattle.stopped_heap.specs.declared.fault.SlideFault.{SlideFault}
-use Rattle.stopped_heap.specs.declared.fault.SlideFault.TheVariants as slide
-use Rattle.stopped_heap.specs.declared.fault.SurveyFault.{SurveyFault}
-use Rattle.stopped_heap.specs.declared.fault.SurveyFault.TheVariants as survey
+use Rattle.rest_marks.specs.declared.fault.CollectFault.{CollectFault}
+use Rattle.rest_marks.specs.declared.fault.CollectFault.TheVariants as collect
+use Rattle.rest_marks.specs.declared.fault.CollectLentFault.{CollectLentFault}
+use Rattle.rest_marks.specs.declared.fault.CollectLentFault.TheVariants as collecting
+use Rattle.rest_marks.specs.declared.fault.LentFault.{LentFault}
+use Rattle.rest_marks.specs.declared.fault.LentFault.TheVariants as lent
+use Rattle.rest_marks.specs.declared.fault.MarksFault.{MarksFault}
+use Rattle.rest_marks.specs.declared.fault.MarksFault.TheVariants as marks
+use Rattle.rest_marks.specs.declared.fault.SlideFault.{SlideFault}
+use Rattle.rest_marks.specs.declared.fault.SlideFault.TheVariants as slide
+use Rattle.rest_marks.specs.declared.fault.SurveyFault.{SurveyFault}
+use Rattle.rest_marks.specs.declared.fault.SurveyFault.TheVariants as survey
 use Rattle.comp_handle.specs.Statuses.{bad_reference, bad_root, bad_weak, busy, changed, image_bad_magic, image_trailing, image_truncated, journal_full, mark_not_start, marks_not_rising, no_such_field, no_such_part, not_a_start, not_in_edition, null_object, object_past_end, object_too_large, object_too_long, other_count, out_of_memory, out_of_pages, overlap, short_tables, too_large, too_short, unmarked, unmarked_target, wrong_length}
 use Rattle.comp_handle.specs.declared.answer.Answer.{Answer}
 

@@ -4,11 +4,11 @@ use Rattle.heap_layout.specs.declared.edition.Edition.{Edition}
 use Rattle.heap_layout.specs.Heap.{Heap, IsValue}
 use Rattle.heap_layout.specs.Limits.{most_roots}
 use Rattle.mark_tables.specs.MarkBitmap.{set_bits}
-use Rattle.stopped_heap.specs.Given.{IsBitsFaultOf}
-use Rattle.stopped_heap.specs.Places.{Found, IsFoundOf}
-use Rattle.stopped_heap.specs.Surveys.{marks_of}
-use Rattle.stopped_heap.specs.declared.fault.BitsFault.{BitsFault}
-use Rattle.stopped_heap.specs.declared.fault.BitsFault.TheVariants as given
+use Rattle.rest_marks.specs.Given.{IsBitsFaultOf}
+use Rattle.rest_marks.specs.Places.{Found, IsFoundOf}
+use Rattle.rest_marks.specs.Surveys.{marks_of}
+use Rattle.rest_marks.specs.declared.fault.BitsFault.{BitsFault}
+use Rattle.rest_marks.specs.declared.fault.BitsFault.TheVariants as given
 use Rattle.comp_handle.specs.Answers.{bare, done}
 use Rattle.comp_handle.specs.Statuses.{bad_edition, bad_root, not_a_run, object_past_end, out_of_memory, too_large, wrong_length}
 use Rattle.comp_handle.specs.HandleKinds.{survey_in, Fills}

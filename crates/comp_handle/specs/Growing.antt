@@ -5,12 +5,12 @@ use Rattle.heap_layout.specs.Heap.{is_value, Heap, IsValue}
 use Rattle.heap_layout.specs.Versions.{version_of}
 use Rattle.heap_layout.specs.declared.edition.Edition.{Edition}
 use Rattle.stopped_heap.specs.Growth.{HasGrown, HasHeld, IsFoundIn, IsGrowthFaultOf, IsGrowthHeldFaultOf}
-use Rattle.stopped_heap.specs.Places.{Found, IsFoundOf}
-use Rattle.stopped_heap.specs.Reached.{IsFaultOf}
+use Rattle.rest_marks.specs.Places.{Found, IsFoundOf}
+use Rattle.rest_marks.specs.Reached.{IsFaultOf}
 use Rattle.stopped_heap.specs.Tables.{IsLentFaultOf, Reserved}
-use Rattle.stopped_heap.specs.declared.fault.LentFault.{LentFault}
-use Rattle.stopped_heap.specs.declared.fault.SurveyFault.{SurveyFault}
-use Rattle.stopped_heap.specs.declared.fault.SurveyFault.TheVariants as survey
+use Rattle.rest_marks.specs.declared.fault.LentFault.{LentFault}
+use Rattle.rest_marks.specs.declared.fault.SurveyFault.{SurveyFault}
+use Rattle.rest_marks.specs.declared.fault.SurveyFault.TheVariants as survey
 use Rattle.comp_handle.specs.Answers.{bare, done, of_lent, of_survey}
 use Rattle.comp_handle.specs.Statuses.{out_of_memory, wrong_length}
 use Rattle.comp_handle.specs.HandleKinds.{growing_in, survey_in, tables_in, Asks, Fills}

@@ -3,8 +3,8 @@ use Rattle.std.specs.Prelude.{◌≡◌, ℕ, ◌⊎◌, List, [], ◌++◌, All
 use Rattle.heap_layout.specs.Heap.{IsValue}
 use Rattle.mark_job.specs.Asked.{Asked}
 use Rattle.stopped_heap.specs.Guarded.{AreHeldFrom, AreParted, IsGuardedFaultOf}
-use Rattle.stopped_heap.specs.Places.{Found, IsFoundOf}
-use Rattle.stopped_heap.specs.declared.fault.SurveyFault.{SurveyFault}
+use Rattle.rest_marks.specs.Places.{Found, IsFoundOf}
+use Rattle.rest_marks.specs.declared.fault.SurveyFault.{SurveyFault}
 use Rattle.comp_handle.specs.Answers.{done, of_survey}
 use Rattle.comp_handle.specs.HandleKinds.{survey_in, Fills}
 use Rattle.comp_handle.specs.Resting.{asked, OfEdition}

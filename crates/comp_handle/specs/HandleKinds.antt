@@ -5,9 +5,9 @@ use Rattle.comp_crew.specs.declared.bench.Bench.{Bench}
 use Rattle.comp_crew.specs.declared.finishing.Ended.{Ended as End}
 use Rattle.comp_crew.specs.declared.member.Member.{Member}
 use Rattle.mark_job.specs.Asked.{Asked}
-use Rattle.stopped_heap.specs.Lanes.{Laned}
-use Rattle.stopped_heap.specs.Looks.{Looking}
-use Rattle.stopped_heap.specs.Places.{Found}
+use Rattle.rest_marks.specs.Lanes.{Laned}
+use Rattle.rest_marks.specs.Looks.{Looking}
+use Rattle.rest_marks.specs.Places.{Found}
 use Rattle.stopped_heap.specs.Tables.{Reserved}
 use Rattle.young_heap.specs.Tables.{Watermarked}
 use Rattle.comp_handle.specs.Answers.{bare}

@@ -1,7 +1,7 @@
 -- A job that marks a heap at rest, by threads of the caller's.
 use Rattle.std.specs.Prelude.{◌≡◌, ℕ, ◌⊎◌, Bool, IsFalse, IsTrue, List, MatchOption, Option, None, Some}
 use Rattle.mark_job.specs.Asked.{Asked, IsBeginFault, IsSmall}
-use Rattle.stopped_heap.specs.declared.fault.SurveyFault.{SurveyFault}
+use Rattle.rest_marks.specs.declared.fault.SurveyFault.{SurveyFault}
 use Rattle.comp_handle.specs.Answers.{bare, done, of_survey}
 use Rattle.comp_handle.specs.Statuses.{not_empty, still_shared, wrong_handle}
 use Rattle.comp_handle.specs.HandleKinds.{job_in, Fills}

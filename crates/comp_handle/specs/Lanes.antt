@@ -3,19 +3,19 @@ use Rattle.std.specs.Prelude.{◌≡◌, ◌≢◌, ℕ, ◌+◌, ◌-◌, ◌<�
 use Rattle.heap_layout.specs.declared.edition.Edition.{Edition}
 use Rattle.heap_layout.specs.Bits.{bit}
 use Rattle.heap_layout.specs.Limits.{most_object_words, most_words}
-use Rattle.stopped_heap.specs.Checks.{IsCheckFault}
-use Rattle.stopped_heap.specs.LaneParts.{joined_met, met_at, AreBoth, IsMissingOf, IsTakeFault}
-use Rattle.stopped_heap.specs.Lanes.{AreKnownMore, AreLanedIn, IsBeginFault, IsJoinFault, IsLaneAfterRows, IsLaneMeetFault, IsLaneRowsFault, IsLedTo, IsTold, Laned}
-use Rattle.stopped_heap.specs.Looks.{rows_of, AreLooked, AreRowsAt, Looking}
-use Rattle.stopped_heap.specs.Marks.{AllKept}
-use Rattle.stopped_heap.specs.declared.fault.CheckFault.{CheckFault}
-use Rattle.stopped_heap.specs.declared.fault.CheckFault.TheVariants as check
-use Rattle.stopped_heap.specs.declared.fault.JoinFault.{JoinFault}
-use Rattle.stopped_heap.specs.declared.fault.JoinFault.TheVariants as join
-use Rattle.stopped_heap.specs.declared.fault.LookFault.{LookFault}
-use Rattle.stopped_heap.specs.declared.fault.MeetFault.{MeetFault}
-use Rattle.stopped_heap.specs.declared.fault.Missing.{Missing}
-use Rattle.stopped_heap.specs.declared.fault.SurveyFault.{SurveyFault}
+use Rattle.rest_marks.specs.Checks.{IsCheckFault}
+use Rattle.rest_marks.specs.LaneParts.{joined_met, met_at, AreBoth, IsMissingOf, IsTakeFault}
+use Rattle.rest_marks.specs.Lanes.{AreKnownMore, AreLanedIn, IsBeginFault, IsJoinFault, IsLaneAfterRows, IsLaneMeetFault, IsLaneRowsFault, IsLedTo, IsTold, Laned}
+use Rattle.rest_marks.specs.Looks.{rows_of, AreLooked, AreRowsAt, Looking}
+use Rattle.rest_marks.specs.Marks.{AllKept}
+use Rattle.rest_marks.specs.declared.fault.CheckFault.{CheckFault}
+use Rattle.rest_marks.specs.declared.fault.CheckFault.TheVariants as check
+use Rattle.rest_marks.specs.declared.fault.JoinFault.{JoinFault}
+use Rattle.rest_marks.specs.declared.fault.JoinFault.TheVariants as join
+use Rattle.rest_marks.specs.declared.fault.LookFault.{LookFault}
+use Rattle.rest_marks.specs.declared.fault.MeetFault.{MeetFault}
+use Rattle.rest_marks.specs.declared.fault.Missing.{Missing}
+use Rattle.rest_marks.specs.declared.fault.SurveyFault.{SurveyFault}
 use Rattle.comp_handle.specs.Answers.{bare, done, of_survey}
 use Rattle.comp_handle.specs.Statuses.{bad_edition, bad_weak, changed, missing_object, not_a_run, other_heap, out_of_memory, overlap, unmarked, wrong_length}
 use Rattle.comp_handle.specs.HandleKinds.{lane_in, looks_in, Asks, Fills}

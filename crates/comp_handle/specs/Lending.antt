@@ -4,12 +4,12 @@ use Rattle.heap_layout.specs.Versions.{version_of}
 use Rattle.heap_layout.specs.declared.edition.Edition.{Edition}
 use Rattle.mark_job.specs.Asked.{Asked, IsMarkedOf}
 use Rattle.stopped_heap.specs.Collecting.{HasCollected}
-use Rattle.stopped_heap.specs.Places.{Found}
-use Rattle.stopped_heap.specs.Reached.{IsFaultOf}
+use Rattle.rest_marks.specs.Places.{Found}
+use Rattle.rest_marks.specs.Reached.{IsFaultOf}
 use Rattle.stopped_heap.specs.Tables.{IsLentFaultOf, RefusesLent, Reserved}
-use Rattle.stopped_heap.specs.declared.fault.CollectLentFault.{CollectLentFault}
-use Rattle.stopped_heap.specs.declared.fault.LentFault.{LentFault}
-use Rattle.stopped_heap.specs.declared.fault.SurveyFault.TheVariants as survey
+use Rattle.rest_marks.specs.declared.fault.CollectLentFault.{CollectLentFault}
+use Rattle.rest_marks.specs.declared.fault.LentFault.{LentFault}
+use Rattle.rest_marks.specs.declared.fault.SurveyFault.TheVariants as survey
 use Rattle.comp_handle.specs.Answers.{bare, done, of_collect_lent, of_lent, of_survey}
 use Rattle.comp_handle.specs.Statuses.{out_of_memory, still_shared}
 use Rattle.comp_handle.specs.HandleKinds.{survey_in, tables_in}

@@ -2,12 +2,12 @@
 use Rattle.std.specs.Prelude.{◌≡◌, ℕ, ◌+◌, ◌<◌, ◌≤◌, ◌⊎◌, false, true, List, length, slice_index, Option, None, Some}
 use Rattle.heap_layout.specs.Bits.{bit}
 use Rattle.heap_layout.specs.Heap.{object_at}
-use Rattle.stopped_heap.specs.LookFaults.{IsLookAgainFault, IsMeetFault, IsRowsFault}
-use Rattle.stopped_heap.specs.Looks.{met_by, met_by_rows, rows_of, AreLooked, AreRowsAt, AreSameBut, IsAt, Looking}
-use Rattle.stopped_heap.specs.declared.fault.LookFault.{LookFault}
-use Rattle.stopped_heap.specs.declared.fault.LookFault.TheVariants as look
-use Rattle.stopped_heap.specs.declared.fault.MeetFault.{MeetFault}
-use Rattle.stopped_heap.specs.declared.fault.MeetFault.TheVariants as meet
+use Rattle.rest_marks.specs.LookFaults.{IsLookAgainFault, IsMeetFault, IsRowsFault}
+use Rattle.rest_marks.specs.Looks.{met_by, met_by_rows, rows_of, AreLooked, AreRowsAt, AreSameBut, IsAt, Looking}
+use Rattle.rest_marks.specs.declared.fault.LookFault.{LookFault}
+use Rattle.rest_marks.specs.declared.fault.LookFault.TheVariants as look
+use Rattle.rest_marks.specs.declared.fault.MeetFault.{MeetFault}
+use Rattle.rest_marks.specs.declared.fault.MeetFault.TheVariants as meet
 use Rattle.comp_handle.specs.Answers.{bare}
 use Rattle.comp_handle.specs.Statuses.{bad_reference, bad_root, bad_weak, no_such_object, object_past_end, object_too_long, out_of_memory, overlap, too_short}
 use Rattle.comp_handle.specs.HandleKinds.{looks_in, Asks}

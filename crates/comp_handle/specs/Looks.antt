@@ -3,12 +3,12 @@ use Rattle.std.specs.Prelude.{◌≡◌, ℕ, ◌<◌, ◌≤◌, ◌⊎◌, min
 use Rattle.heap_layout.specs.declared.edition.Edition.{Edition}
 use Rattle.heap_layout.specs.Heap.{Heap, IsValue}
 use Rattle.heap_layout.specs.Limits.{most_object_words, most_roots, most_words}
-use Rattle.stopped_heap.specs.Given.{heap_now, IsBitsFaultOf}
-use Rattle.stopped_heap.specs.Looks.{met_by, AreLooked, Looking}
-use Rattle.stopped_heap.specs.Places.{Found, IsFoundOf}
-use Rattle.stopped_heap.specs.Reached.{IsFaultOf}
-use Rattle.stopped_heap.specs.declared.fault.BitsFault.{BitsFault}
-use Rattle.stopped_heap.specs.declared.fault.SurveyFault.{SurveyFault}
+use Rattle.rest_marks.specs.Given.{heap_now, IsBitsFaultOf}
+use Rattle.rest_marks.specs.Looks.{met_by, AreLooked, Looking}
+use Rattle.rest_marks.specs.Places.{Found, IsFoundOf}
+use Rattle.rest_marks.specs.Reached.{IsFaultOf}
+use Rattle.rest_marks.specs.declared.fault.BitsFault.{BitsFault}
+use Rattle.rest_marks.specs.declared.fault.SurveyFault.{SurveyFault}
 use Rattle.comp_handle.specs.Answers.{bare, done, of_survey}
 use Rattle.comp_handle.specs.Statuses.{bad_edition, out_of_memory, still_waiting}
 use Rattle.comp_handle.specs.ByBits.{of_bits}

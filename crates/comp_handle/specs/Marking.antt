@@ -3,7 +3,7 @@ use Rattle.std.specs.Prelude.{◌≡◌, ◌≢◌, ℕ, ◌≤◌, ◌⊎◌, B
 use Rattle.heap_layout.specs.declared.edition.Edition.{Edition}
 use Rattle.heap_layout.specs.Heap.{Heap, IsValue}
 use Rattle.heap_layout.specs.Limits.{most_roots}
-use Rattle.stopped_heap.specs.Places.{Found, IsFoundOf}
+use Rattle.rest_marks.specs.Places.{Found, IsFoundOf}
 use Rattle.mark_job.specs.Heads.{AreAmong}
 use Rattle.mark_job.specs.Marking.{AreKept, AreMarked, IsBeginFaultOf, IsEndFaultOf, IsMeetFaultOf, LeadWithin, MayBegin}
 use Rattle.mark_job.specs.Met.{Begun}

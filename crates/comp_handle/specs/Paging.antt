@@ -1,6 +1,6 @@
 -- A slide page by page: its beginning, its shares and its end.
 use Rattle.std.specs.Prelude.{◌≡◌, ℕ, ◌<◌, ◌⊎◌, MatchOption, Option, None, Some}
-use Rattle.stopped_heap.specs.Places.{Found}
+use Rattle.rest_marks.specs.Places.{Found}
 use Rattle.first_touch.specs.Beginning.{AreBegun}
 use Rattle.first_touch.specs.Seen.{IsSeenAway, Seen, TurnDesk}
 use Rattle.comp_handle.specs.Answers.{bare, done}

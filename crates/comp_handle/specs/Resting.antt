@@ -5,16 +5,16 @@ use Rattle.heap_layout.specs.Versions.{version_of}
 use Rattle.heap_layout.specs.declared.edition.Edition.{Edition}
 use Rattle.mark_job.specs.Asked.{Asked, IsMarkedOf}
 use Rattle.stopped_heap.specs.Collecting.{HasCollected, RefusesCollection}
-use Rattle.stopped_heap.specs.Marks.{IsMarksFaultOf}
-use Rattle.stopped_heap.specs.Places.{led_by, words_now, Found, IsAsFound, IsFoundOf, IsSlideFault}
-use Rattle.stopped_heap.specs.Reached.{IsFaultOf}
-use Rattle.stopped_heap.specs.Surveys.{marks_of}
-use Rattle.stopped_heap.specs.declared.fault.CollectFault.{CollectFault}
-use Rattle.stopped_heap.specs.declared.fault.MarksFault.{MarksFault}
-use Rattle.stopped_heap.specs.declared.fault.MarksFault.TheVariants as refusal
-use Rattle.stopped_heap.specs.declared.fault.SlideFault.{SlideFault}
-use Rattle.stopped_heap.specs.declared.fault.SlideFault.TheVariants as slide
-use Rattle.stopped_heap.specs.declared.fault.SurveyFault.{SurveyFault}
+use Rattle.rest_marks.specs.Marks.{IsMarksFaultOf}
+use Rattle.rest_marks.specs.Places.{led_by, words_now, Found, IsAsFound, IsFoundOf, IsSlideFault}
+use Rattle.rest_marks.specs.Reached.{IsFaultOf}
+use Rattle.rest_marks.specs.Surveys.{marks_of}
+use Rattle.rest_marks.specs.declared.fault.CollectFault.{CollectFault}
+use Rattle.rest_marks.specs.declared.fault.MarksFault.{MarksFault}
+use Rattle.rest_marks.specs.declared.fault.MarksFault.TheVariants as refusal
+use Rattle.rest_marks.specs.declared.fault.SlideFault.{SlideFault}
+use Rattle.rest_marks.specs.declared.fault.SlideFault.TheVariants as slide
+use Rattle.rest_marks.specs.declared.fault.SurveyFault.{SurveyFault}
 use Rattle.comp_handle.specs.Answers.{bare, done, of_collect, of_marks, of_slide, of_survey}
 use Rattle.comp_handle.specs.Statuses.{bad_edition, bad_root, not_empty, out_of_memory}
 use Rattle.comp_handle.specs.HandleKinds.{survey_in, Asks, Fills}

@@ -9,8 +9,8 @@ ghost use Rattle.comp_handle.specs.declared.kept.Kept.TheVariants as kinds;
 ghost use Rattle.comp_handle.specs.Statuses.{wrong_length};
 ghost use Rattle.heap_layout.specs.Heap.{Heap};
 ghost use Rattle.stopped_heap.specs.Growth.{HasGrown, HasHeld, IsGrowthFaultOf, IsGrowthHeldFaultOf};
-ghost use Rattle.stopped_heap.specs.Places.{IsFoundOf};
-ghost use Rattle.stopped_heap.specs.Reached.{IsFaultOf};
+ghost use Rattle.rest_marks.specs.Places.{IsFoundOf};
+ghost use Rattle.rest_marks.specs.Reached.{IsFaultOf};
 ghost use Rattle.stopped_heap.specs.Tables.{IsLentFaultOf};
 
 use crate::answer::Answer;

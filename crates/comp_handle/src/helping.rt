@@ -8,7 +8,7 @@ ghost use Rattle.comp_handle.specs.Lending.{IsStillShared};
 ghost use Rattle.comp_handle.specs.Resting.{asked, IsUnsharedIn, Shares, Surveys};
 ghost use Rattle.comp_handle.specs.Statuses.{not_empty, out_of_memory};
 ghost use Rattle.mark_job.specs.Asked.{IsBeginFault, IsMarkedOf, IsSmall};
-ghost use Rattle.stopped_heap.specs.Reached.{IsFaultOf};
+ghost use Rattle.rest_marks.specs.Reached.{IsFaultOf};
 
 use crate::answer::Answer;
 use crate::handle::Handle;

@@ -8,7 +8,7 @@ ghost use Rattle.comp_handle.specs.Looks.{CopiesWaiting, SaysWaiting};
 ghost use Rattle.comp_handle.specs.Resting.{IsUnsharedIn};
 ghost use Rattle.comp_handle.specs.Statuses.{not_empty, out_of_memory};
 ghost use Rattle.heap_layout.specs.Limits.{most_words};
-ghost use Rattle.stopped_heap.specs.Lanes.{IsBeginFault};
+ghost use Rattle.rest_marks.specs.Lanes.{IsBeginFault};
 
 use crate::answer::Answer;
 use crate::handle::Handle;

@@ -5,7 +5,7 @@ ghost use Rattle.comp_handle.specs.HandleKinds.{survey_in, Asks};
 ghost use Rattle.comp_handle.specs.Resting.{asked, nulls, Collects, CollectsIn, CollectsInPlace, CollectsWithin, CountsSurvey, ForwardsRoots, ForwardsWeak, IsTakenOf, IsUnsharedIn, RefusesMarks, Shares, Slides, Surveys, SurveysByMarks, SurveysByRoots, TakesMarks};
 ghost use Rattle.comp_handle.specs.Statuses.{not_empty, out_of_memory};
 ghost use Rattle.mark_job.specs.Asked.{IsMarkedOf};
-ghost use Rattle.stopped_heap.specs.Reached.{IsFaultOf};
+ghost use Rattle.rest_marks.specs.Reached.{IsFaultOf};
 
 use crate::answer::Answer;
 use crate::handle::Handle;

@@ -1,7 +1,7 @@
 -- Why a page is refused.
 use Rattle.std.proofs.Common.{◌≡◌, ℕ, ◌*◌, List, subst}
-use Rattle.stopped_heap.specs.Places.{Found, IsSlideFault}
-use Rattle.stopped_heap.specs.declared.fault.SlideFault.{SlideFault}
+use Rattle.rest_marks.specs.Places.{Found, IsSlideFault}
+use Rattle.rest_marks.specs.declared.fault.SlideFault.{SlideFault}
 use Rattle.first_touch.specs.Asked.{Asked, page_len, IsPageFault}
 
 -- a fault of the part that is page k

@@ -5,8 +5,8 @@ use mathlib.Core.Logic.{dite}
 use native.Mathlib.Decide.{dec_le}
 use native.Mathlib.Nat.{min-eq_left, min_comm}
 use Rattle.heap_layout.specs.Heap.{Heap}
-use Rattle.stopped_heap.specs.Places.{IsFoundOf, word_now, words_now}
-use Rattle.stopped_heap.specs.Settled.{collected}
+use Rattle.rest_marks.specs.Places.{IsFoundOf, word_now, words_now}
+use Rattle.rest_slide.specs.Settled.{collected}
 use Rattle.stopped_heap.proofs.Unchanged.{words-same}
 use Rattle.first_touch.specs.Asked.{Asked, page_len, slid_page, joined_pages}
 

@@ -1,7 +1,7 @@
 -- What slides, page by page.
 use Rattle.std.specs.Prelude.{ℕ, suc, zero, ◌+◌, ◌-◌, ◌*◌, ◌<◌, ◌≤◌, min, List, [], ◌++◌, take, drop, length}
-use Rattle.stopped_heap.specs.Places.{Found, words_now, IsSlideFault}
-use Rattle.stopped_heap.specs.declared.fault.SlideFault.{SlideFault}
+use Rattle.rest_marks.specs.Places.{Found, words_now, IsSlideFault}
+use Rattle.rest_marks.specs.declared.fault.SlideFault.{SlideFault}
 
 -- what was found, the words of the heap, and how many words a page has; the last page may have fewer
 pub record Asked : Type 0 where

@@ -1,6 +1,6 @@
 -- How a slide is begun, or is not.
 use Rattle.std.specs.Prelude.{◌≡◌, ◌≢◌, ℕ, ◌<◌, List, length}
-use Rattle.stopped_heap.specs.Places.{Found}
+use Rattle.rest_marks.specs.Places.{Found}
 use Rattle.first_touch.specs.Asked.{IsCut}
 use Rattle.first_touch.specs.Seen.{Desked, TurnDesk}
 use Rattle.first_touch.specs.declared.not_begun.BeginFault.{BeginFault}

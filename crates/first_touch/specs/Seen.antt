@@ -1,7 +1,7 @@
 -- What contracts see of desks, of turns and of pages.
 use Rattle.std.specs.Prelude.{◌≡◌, ◌≢◌, ℕ, Bool, true, List}
 use Rattle.atomic_table.specs.Seated.{TableId}
-use Rattle.stopped_heap.specs.Places.{Found}
+use Rattle.rest_marks.specs.Places.{Found}
 use Rattle.first_touch.specs.Asked.{Asked, slid_page}
 use Rattle.first_touch.specs.Known.{Met}
 

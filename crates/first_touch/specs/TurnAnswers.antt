@@ -1,6 +1,6 @@
 -- What the calls of turns answer.
 use Rattle.std.specs.Prelude.{◌≡◌, ◌≢◌, ℕ, ◌<◌, ◌≤◌, List}
-use Rattle.stopped_heap.specs.declared.fault.SlideFault.TheVariants as slide
+use Rattle.rest_marks.specs.declared.fault.SlideFault.TheVariants as slide
 use Rattle.first_touch.specs.Asked.{Asked, page_len, IsPageFault}
 use Rattle.first_touch.specs.Seen.{TurnDesk, asked_of, page_id, IsPutBack, IsSeenBusy}
 use Rattle.first_touch.specs.declared.turns.NotFilled.{NotFilled}

@@ -1,6 +1,6 @@
 //! The desk, from its beginning to its end.
 ghost use Rattle.std.specs.Prelude.{◌≡◌, ◌*◌, ◌<◌, ◌≤◌, drop, length, take, IfErr, IfOk, MatchOption, OnOk};
-ghost use Rattle.stopped_heap.specs.Places.{words_now, IsSlideFault};
+ghost use Rattle.rest_marks.specs.Places.{words_now, IsSlideFault};
 ghost use Rattle.first_touch.specs.Asked.{page_len, slid_page};
 ghost use Rattle.first_touch.specs.Beginning.{IsBegun, IsNotBegun};
 ghost use Rattle.first_touch.specs.Seen.{built_page, page_id, IsSeenAway};

@@ -1,8 +1,8 @@
 //! What a page is, and what all pages are together.
 ghost use Rattle.std.specs.Prelude.{◌≡◌, ◌*◌, ◌≤◌, ℕ, drop, length, take};
 ghost use Rattle.heap_layout.specs.Heap.{Heap};
-ghost use Rattle.stopped_heap.specs.Places.{IsFoundOf};
-ghost use Rattle.stopped_heap.specs.Settled.{collected};
+ghost use Rattle.rest_marks.specs.Places.{IsFoundOf};
+ghost use Rattle.rest_slide.specs.Settled.{collected};
 ghost use Rattle.first_touch.specs.Asked.{Asked, joined_pages, page_len, slid_page};
 
 /// The words of each page when it is handed out are those of the collected heap at its place, if the words are those

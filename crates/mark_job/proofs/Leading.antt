@@ -4,7 +4,7 @@ use Rattle.std.proofs.lemmas.Bool.{cases_eq}
 use Rattle.std.proofs.lemmas.List.Elements.{Contains-get_or}
 use Rattle.heap_layout.specs.Bits.{bit}
 use Rattle.heap_layout.specs.Heap.{object_at}
-use Rattle.stopped_heap.specs.Reached.{LeadInto, by_root, by_reference}
+use Rattle.rest_marks.specs.Reached.{LeadInto, by_root, by_reference}
 use Rattle.mark_job.specs.Asked.{Asked, IsMetIn}
 use Rattle.mark_job.specs.LeadingWords.{LeadIn, LeadsIn}
 

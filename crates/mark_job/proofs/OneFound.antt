@@ -7,12 +7,12 @@ use Rattle.heap_layout.specs.Bits.{bit}
 use Rattle.heap_layout.specs.Heap.{live}
 use Rattle.mark_tables.specs.LiveWords.{live_indices}
 use Rattle.reachability.proofs.Rising.{contains-had}
-use Rattle.stopped_heap.specs.Reached.{AreReached, IsSound}
-use Rattle.stopped_heap.specs.Surveys.{Surveyed, heap_of, marks_of, with_roots}
-use Rattle.stopped_heap.specs.Places.{Found, IsFoundOf}
+use Rattle.rest_marks.specs.Reached.{AreReached, IsSound}
+use Rattle.rest_marks.specs.Surveys.{Surveyed, heap_of, marks_of, with_roots}
+use Rattle.rest_marks.specs.Places.{Found, IsFoundOf}
 use Rattle.stopped_heap.proofs.Collected.{reached-marked}
 use Rattle.stopped_heap.proofs.Once.{once}
-use Rattle.stopped_heap.proofs.Surveying.{marks-rising}
+use Rattle.rest_marks.proofs.Surveying.{marks-rising}
 use Rattle.mark_job.specs.Asked.{Asked, IsMarkedOf, IsMetIn}
 
 -- Objects that are reached, and whose roots and references lead to such objects alone, are all that are reached.

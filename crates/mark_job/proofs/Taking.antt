@@ -2,8 +2,8 @@
 use Rattle.std.proofs.Common.{◌≡◌, ℕ, ◌*◌, ◌<◌, ◌≤◌, true, List, length, Contains, sym, subst, arith}
 use Rattle.heap_layout.specs.Bits.{bit}
 use Rattle.reachability.proofs.Indices.{index-there}
-use Rattle.stopped_heap.specs.Surveys.{marks_of}
-use Rattle.stopped_heap.proofs.Bounding.{bit-inside}
+use Rattle.rest_marks.specs.Surveys.{marks_of}
+use Rattle.rest_marks.proofs.Bounding.{bit-inside}
 use Rattle.mark_job.specs.Marking.{AreKept}
 
 -- the object whose bit is set is marked

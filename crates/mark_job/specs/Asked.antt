@@ -1,10 +1,10 @@
 -- The heap that a job marks.
 use Rattle.std.specs.Prelude.{◌≡◌, ℕ, ◌⊎◌, List, All}
 use Rattle.heap_layout.specs.declared.edition.Edition.{Edition}
-use Rattle.stopped_heap.specs.Reached.{AreFew, AreReached, IsFaultOf, IsReachedFrom}
-use Rattle.stopped_heap.specs.Places.{Found, IsFoundOf}
-use Rattle.stopped_heap.specs.declared.fault.SurveyFault.{SurveyFault}
-use Rattle.stopped_heap.specs.declared.fault.SurveyFault.TheVariants.{TooLarge, OutOfMemory}
+use Rattle.rest_marks.specs.Reached.{AreFew, AreReached, IsFaultOf, IsReachedFrom}
+use Rattle.rest_marks.specs.Places.{Found, IsFoundOf}
+use Rattle.rest_marks.specs.declared.fault.SurveyFault.{SurveyFault}
+use Rattle.rest_marks.specs.declared.fault.SurveyFault.TheVariants.{TooLarge, OutOfMemory}
 
 -- the heap whose words and roots these are
 pub record Asked : Type 0 where

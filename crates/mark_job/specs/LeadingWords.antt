@@ -1,7 +1,7 @@
 -- Words that lead to objects which the roots reach.
 use Rattle.std.specs.Prelude.{◌≡◌, ℕ, ◌<◌, List, length}
 use Rattle.heap_layout.specs.Heap.{from_address}
-use Rattle.stopped_heap.specs.Reached.{LeadInto}
+use Rattle.rest_marks.specs.Reached.{LeadInto}
 use Rattle.mark_job.specs.Asked.{Asked, IsMetIn}
 
 -- if a word leads to an object, the roots reach it

@@ -5,9 +5,9 @@ use Rattle.heap_layout.specs.Bits.{bit}
 use Rattle.heap_layout.specs.Heap.{from_address}
 use Rattle.heap_layout.specs.Limits.{most_words, most_roots, most_object_words}
 use Rattle.heap_layout.specs.Values.{leads_nowhere}
-use Rattle.stopped_heap.specs.Reached.{is_within}
-use Rattle.stopped_heap.specs.declared.fault.BitsFault.{BitsFault}
-use Rattle.stopped_heap.specs.declared.fault.BitsFault.TheVariants as given
+use Rattle.rest_marks.specs.Reached.{is_within}
+use Rattle.rest_marks.specs.declared.fault.BitsFault.{BitsFault}
+use Rattle.rest_marks.specs.declared.fault.BitsFault.TheVariants as given
 use Rattle.mark_job.specs.declared.marking_fault.MarkingFault.{MarkingFault}
 use Rattle.mark_job.specs.declared.marking_fault.MarkingFault.TheVariants as begin
 use Rattle.mark_job.specs.declared.marking_fault.MeetFault.{MeetFault}

@@ -1,6 +1,6 @@
 //! A job, from its beginning to its end.
 ghost use Rattle.std.specs.Prelude.{◌≡◌, IfErr, IfOk};
-ghost use Rattle.stopped_heap.specs.Reached.{IsFaultOf};
+ghost use Rattle.rest_marks.specs.Reached.{IsFaultOf};
 ghost use Rattle.mark_job.specs.Asked.{IsBeginFault, IsMarkedOf, IsSmall};
 
 use crate::desk::Desk;

@@ -1,7 +1,7 @@
 //! What of a heap is found.
 ghost use Rattle.std.specs.Prelude.{◌≡◌};
 ghost use Rattle.mark_job.specs.Asked.{Asked, IsMarkedOf};
-ghost use Rattle.stopped_heap.specs.Places.{Found};
+ghost use Rattle.rest_marks.specs.Places.{Found};
 
 /// Of a heap there is one answer, but for the room of its tables. So whoever helped, and whether anyone did, the same
 /// objects are found, and each word leads to the same place.

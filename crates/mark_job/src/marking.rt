@@ -3,8 +3,8 @@ ghost use Rattle.std.specs.Prelude.{◌≡◌, ◌≢◌, ℕ, ◌*◌, ◌^◌,
 ghost use Rattle.heap_layout.specs.Bits.{bit};
 ghost use Rattle.heap_layout.specs.Heap.{Heap, from_address, IsValue};
 ghost use Rattle.heap_layout.specs.Limits.{most_object_words, most_roots, most_words};
-ghost use Rattle.stopped_heap.specs.Places.{IsFoundOf};
-ghost use Rattle.stopped_heap.specs.Reached.{is_within};
+ghost use Rattle.rest_marks.specs.Places.{IsFoundOf};
+ghost use Rattle.rest_marks.specs.Reached.{is_within};
 ghost use Rattle.mark_job.specs.Heads.{AreAmong};
 ghost use Rattle.mark_job.specs.Marking.{AreKept, AreMarked, IsBeginFaultOf, IsEndFaultOf, IsMeetFaultOf, IsTakingFaultOf, LeadsAstray, LeadWithin, MayBegin};
 

@@ -58,7 +58,7 @@ pub enum MarkingEnd {
 
 impl From<AllocError> for MarkingEnd {
     ghost use Rattle.std.specs.Prelude.{◌≡◌};
-    ghost use Rattle.stopped_heap.specs.declared.fault.BitsFault.TheVariants as given;
+    ghost use Rattle.rest_marks.specs.declared.fault.BitsFault.TheVariants as given;
     ghost use Rattle.mark_job.specs.declared.marking_fault.MarkingEnd.TheVariants as end;
 
     ghost from_gives = { λ _ fault. fault ≡ end.Bits given.OutOfMemory };

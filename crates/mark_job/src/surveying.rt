@@ -1,7 +1,7 @@
 //! What was found, as a survey.
 ghost use Rattle.std.specs.Prelude.{◌≡◌, ℕ, ◌*◌, ◌≤◌, false, length, IfErr, IfOk, IfSome};
 ghost use Rattle.heap_layout.specs.Bits.{bit};
-ghost use Rattle.stopped_heap.specs.Reached.{IsFaultOf};
+ghost use Rattle.rest_marks.specs.Reached.{IsFaultOf};
 ghost use Rattle.mark_job.specs.Asked.{IsMarkedOf};
 
 use crate::image::Image;

@@ -11,16 +11,16 @@ use Rattle.page_plan.proofs.Marks.{has-address}
 use Rattle.reachability.specs.Queue.{is_address}
 use Rattle.reachability.proofs.Queues.{has-at, place-of}
 use Rattle.reachability.proofs.Rising.{contains-had, has-contained}
-use Rattle.stopped_heap.specs.Given.{heap_now}
-use Rattle.stopped_heap.specs.Growing.{roots_on, IsMoreFaultOf}
+use Rattle.rest_marks.specs.Given.{heap_now}
+use Rattle.rest_marks.specs.Growing.{roots_on, IsMoreFaultOf}
 use Rattle.stopped_heap.specs.Growth.{IsFoundIn}
-use Rattle.stopped_heap.specs.Places.{Found, IsFoundOf}
-use Rattle.stopped_heap.specs.Reached.{is_below, leads_within, AreReached, IsFaultOf, IsReachedFrom, IsStray, LeadInto, by_root}
-use Rattle.stopped_heap.specs.declared.fault.SurveyFault.{SurveyFault}
-use Rattle.stopped_heap.specs.declared.fault.SurveyFault.TheVariants.{TooLarge, BadRoot, BadReference, BadWeak, ObjectTooLong, ObjectPastEnd, Overlap, OutOfMemory}
-use Rattle.stopped_heap.proofs.Grown.{address-back, lead-cases, lead-left, lead-marked, lead-right, reached-through}
-use Rattle.stopped_heap.proofs.Heads.{any-at}
-use Rattle.stopped_heap.proofs.Leading.{led-at}
+use Rattle.rest_marks.specs.Places.{Found, IsFoundOf}
+use Rattle.rest_marks.specs.Reached.{is_below, leads_within, AreReached, IsFaultOf, IsReachedFrom, IsStray, LeadInto, by_root}
+use Rattle.rest_marks.specs.declared.fault.SurveyFault.{SurveyFault}
+use Rattle.rest_marks.specs.declared.fault.SurveyFault.TheVariants.{TooLarge, BadRoot, BadReference, BadWeak, ObjectTooLong, ObjectPastEnd, Overlap, OutOfMemory}
+use Rattle.rest_marks.proofs.Grown.{address-back, lead-cases, lead-left, lead-marked, lead-right, reached-through}
+use Rattle.rest_marks.proofs.Heads.{any-at}
+use Rattle.rest_marks.proofs.Leading.{led-at}
 use Rattle.pinned_heap.specs.Around.{end_from, is_address_of, led_around, runs_from, stays, IsSlidAround}
 use Rattle.pinned_heap.specs.Collecting.{refused_with, AreFewWith, HasCollectedAround, LeavesRuns, RefusesPinned}
 use Rattle.pinned_heap.specs.Pinned.{is_object, is_still, led_in, objects_in, FoundAround, IsPinFault}

@@ -7,7 +7,7 @@ use Rattle.std.proofs.lemmas.Nat.Bits.{bit_at-zero, bit_at_above, bit_at_cat_low
 use Rattle.heap_layout.specs.Bits.{bit}
 use Rattle.mark_tables.specs.MarkBitmap.{passing}
 use Rattle.mark_tables.proofs.Counting.{passing-block}
-use Rattle.stopped_heap.proofs.Starting.{last-bit}
+use Rattle.rest_marks.proofs.Starting.{last-bit}
 use Rattle.pinned_heap.specs.Tables.{end_below, place_at, place_by}
 
 -- ---- word by word

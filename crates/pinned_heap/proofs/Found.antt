@@ -11,14 +11,14 @@ use Rattle.heap_layout.specs.Heap.{Object, from_address, is_start, live, object_
 use Rattle.heap_layout.specs.Values.{is_immediate}
 use Rattle.mark_tables.specs.LiveWords.{live_indices}
 use Rattle.reachability.specs.Queue.{is_address}
-use Rattle.stopped_heap.specs.Given.{heap_now}
+use Rattle.rest_marks.specs.Given.{heap_now}
 use Rattle.stopped_heap.specs.Growth.{IsFoundIn}
-use Rattle.stopped_heap.specs.Places.{Found}
-use Rattle.stopped_heap.specs.Reached.{IsSound}
-use Rattle.stopped_heap.specs.Surveys.{marks_of, told, AreTables}
-use Rattle.stopped_heap.proofs.Bounding.{bit-inside}
-use Rattle.stopped_heap.proofs.Heads.{any-at, head-number}
-use Rattle.stopped_heap.proofs.Settling.{is-plain}
+use Rattle.rest_marks.specs.Places.{Found}
+use Rattle.rest_marks.specs.Reached.{IsSound}
+use Rattle.rest_marks.specs.Surveys.{marks_of, told, AreTables}
+use Rattle.rest_marks.proofs.Bounding.{bit-inside}
+use Rattle.rest_marks.proofs.Heads.{any-at, head-number}
+use Rattle.rest_slide.proofs.Settling.{is-plain}
 use Rattle.pinned_heap.specs.Around.{end_from, led_around, runs_from, stays as is_pinned, IsSlidAround}
 use Rattle.pinned_heap.specs.Pinned.{is_object, objects_in, AreTablesAround}
 use Rattle.pinned_heap.specs.Tables.{is_pin, kept_at_place}

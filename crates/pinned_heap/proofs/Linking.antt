@@ -16,12 +16,12 @@ use Rattle.page_plan.proofs.Marks.{length-live}
 use Rattle.page_plan.proofs.Objects.{live-at}
 use Rattle.page_plan.proofs.Ranks.{covered}
 use Rattle.reachability.specs.Queue.{is_address}
-use Rattle.stopped_heap.specs.Reached.{IsSound}
-use Rattle.stopped_heap.specs.Surveys.{marks_of, told, AreTables}
-use Rattle.stopped_heap.proofs.Bounding.{bit-inside}
-use Rattle.stopped_heap.proofs.Ended.{live-bit}
-use Rattle.stopped_heap.proofs.Heads.{head-number, heads-lead, marks-above, marks-apart}
-use Rattle.stopped_heap.proofs.Placing.{index-is, starts-next}
+use Rattle.rest_marks.specs.Reached.{IsSound}
+use Rattle.rest_marks.specs.Surveys.{marks_of, told, AreTables}
+use Rattle.rest_marks.proofs.Bounding.{bit-inside}
+use Rattle.rest_slide.proofs.Ended.{live-bit}
+use Rattle.rest_marks.proofs.Heads.{head-number, heads-lead, marks-above, marks-apart}
+use Rattle.rest_slide.proofs.Placing.{index-is, starts-next}
 use Rattle.pinned_heap.specs.Around.{end_from, is_address_of, led_around, place_in}
 use Rattle.pinned_heap.specs.Pins.{places_from, AreInOrder}
 use Rattle.pinned_heap.specs.Tables.{end_below, kept_at_place, led_to_place, place_by}

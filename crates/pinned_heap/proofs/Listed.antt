@@ -7,8 +7,8 @@ use Rattle.heap_layout.specs.Bits.{bit}
 use Rattle.heap_layout.specs.Header.{size_of}
 use Rattle.heap_layout.specs.Heap.{Object, header_at, object_at, live}
 use Rattle.mark_tables.specs.LiveWords.{size}
-use Rattle.stopped_heap.specs.Surveys.{marks_of, told, AreTables}
-use Rattle.stopped_heap.proofs.Heads.{marks-above}
+use Rattle.rest_marks.specs.Surveys.{marks_of, told, AreTables}
+use Rattle.rest_marks.proofs.Heads.{marks-above}
 use Rattle.pinned_heap.specs.Around.{end_from, runs_from}
 use Rattle.pinned_heap.specs.Listing.{run_to, runs_below}
 use Rattle.pinned_heap.specs.Tables.{end_below}

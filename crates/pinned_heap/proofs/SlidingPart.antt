@@ -10,9 +10,9 @@ use Rattle.heap_layout.specs.Heap.{from_address, header_at, IsPlaced, IsValue}
 use Rattle.heap_layout.specs.Values.{is_immediate}
 use Rattle.heap_layout.proofs.Values.{value-cases}
 use Rattle.page_plan.proofs.Marks.{has-address}
-use Rattle.stopped_heap.specs.Surveys.{marks_of}
-use Rattle.stopped_heap.proofs.Bounding.{bit-inside}
-use Rattle.stopped_heap.proofs.Heads.{mark-set}
+use Rattle.rest_marks.specs.Surveys.{marks_of}
+use Rattle.rest_marks.proofs.Bounding.{bit-inside}
+use Rattle.rest_marks.proofs.Heads.{mark-set}
 use Rattle.pinned_heap.specs.Around.{IsFilled}
 use Rattle.pinned_heap.specs.Parts.{led_word, run_in, AreObjectsSlid, ArePartTables, IsObjectSlid, IsPartSlid, IsRunFilled}
 use Rattle.pinned_heap.specs.Tables.{end_below, kept_at_place, led_to_place, place_by}

@@ -17,11 +17,11 @@ use Rattle.page_plan.proofs.NewAddresses.{forward-none}
 use Rattle.page_plan.proofs.Objects.{live-at, live_words-next}
 use Rattle.page_plan.proofs.Ranks.{covered}
 use Rattle.stopped_heap.specs.Collecting.{HasCollected}
-use Rattle.stopped_heap.specs.Places.{led_words}
-use Rattle.stopped_heap.specs.Reached.{AreReached, IsSound}
-use Rattle.stopped_heap.specs.Settled.{lowered, settled, settled_word, settled_words}
-use Rattle.stopped_heap.proofs.Below.{leads, live_fit, mark-new_index}
-use Rattle.stopped_heap.proofs.Settling.{lowered-plain, settled-all, settled-at, settled-immediate, settled-length, settled-lost, settled-null, settled-plain}
+use Rattle.rest_marks.specs.Places.{led_words}
+use Rattle.rest_marks.specs.Reached.{AreReached, IsSound}
+use Rattle.rest_slide.specs.Settled.{lowered, settled, settled_word, settled_words}
+use Rattle.rest_marks.proofs.BitsBelow.{leads, live_fit, mark-new_index}
+use Rattle.rest_slide.proofs.Settling.{lowered-plain, settled-all, settled-at, settled-immediate, settled-length, settled-lost, settled-null, settled-plain}
 use Rattle.pinned_heap.specs.Around.{end_from, is_address_of, led_around, led_object, place_in, runs_from, IsSlidAround}
 use Rattle.pinned_heap.specs.Collecting.{HasCollectedAround}
 use Rattle.pinned_heap.specs.Pins.{places_from}

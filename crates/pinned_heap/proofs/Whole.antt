@@ -11,12 +11,12 @@ use Rattle.heap_layout.specs.Header.{refs_of, weak_of, data_of, size_of}
 use Rattle.heap_layout.specs.Heap.{Heap, Object, header_at, object_at, live, IsPlaced, IsValue}
 use Rattle.heap_layout.specs.Limits.{most_words}
 use Rattle.mark_tables.specs.LiveWords.{size}
-use Rattle.stopped_heap.specs.Places.{led_words}
-use Rattle.stopped_heap.specs.Surveys.{marks_of, told, AreTables}
-use Rattle.stopped_heap.proofs.Bounding.{bit-past}
-use Rattle.stopped_heap.proofs.Filling.{live-placed, live-value}
-use Rattle.stopped_heap.proofs.Heads.{head-number, mark-set, marks-above, marks-apart}
-use Rattle.stopped_heap.proofs.Led.{led-header, led-refers, led-data}
+use Rattle.rest_marks.specs.Places.{led_words}
+use Rattle.rest_marks.specs.Surveys.{marks_of, told, AreTables}
+use Rattle.rest_marks.proofs.Bounding.{bit-past}
+use Rattle.rest_slide.proofs.Filling.{live-placed, live-value}
+use Rattle.rest_marks.proofs.Heads.{head-number, mark-set, marks-above, marks-apart}
+use Rattle.rest_slide.proofs.Led.{led-header, led-refers, led-data}
 use Rattle.pinned_heap.specs.Around.{end_from, led_around, led_object, runs_from, IsFilled, IsSlidAround}
 use Rattle.pinned_heap.specs.Parts.{led_word, ArePartTables, IsPartSlid}
 use Rattle.pinned_heap.specs.Pins.{places_from}

@@ -7,7 +7,7 @@ use Rattle.heap_layout.specs.Header.{size_of}
 use Rattle.heap_layout.specs.Heap.{Heap, Object, from_address, header_at, is_start, live, object_at}
 use Rattle.heap_layout.specs.Values.{is_immediate}
 use Rattle.mark_tables.specs.LiveWords.{size}
-use Rattle.stopped_heap.specs.Places.{led_words}
+use Rattle.rest_marks.specs.Places.{led_words}
 use Rattle.pinned_heap.specs.Pins.{places_from}
 use Rattle.pinned_heap.specs.declared.run.Run.{Run}
 

@@ -4,9 +4,9 @@ use Rattle.heap_layout.specs.declared.edition.Edition.{Edition}
 use Rattle.heap_layout.specs.Heap.{Heap, live}
 use Rattle.heap_layout.specs.Limits.{most_words, most_roots}
 use Rattle.reachability.specs.Queue.{is_address}
-use Rattle.stopped_heap.specs.Reached.{is_below, AreReached, IsHeapFaultOf, IsSound}
-use Rattle.stopped_heap.specs.declared.fault.SurveyFault.{SurveyFault}
-use Rattle.stopped_heap.specs.declared.fault.SurveyFault.TheVariants.{TooLarge, BadRoot, BadReference, BadWeak, ObjectTooLong, ObjectPastEnd, Overlap, OutOfMemory}
+use Rattle.rest_marks.specs.Reached.{is_below, AreReached, IsHeapFaultOf, IsSound}
+use Rattle.rest_marks.specs.declared.fault.SurveyFault.{SurveyFault}
+use Rattle.rest_marks.specs.declared.fault.SurveyFault.TheVariants.{TooLarge, BadRoot, BadReference, BadWeak, ObjectTooLong, ObjectPastEnd, Overlap, OutOfMemory}
 use Rattle.pinned_heap.specs.Around.{end_from, is_address_of, led_around, runs_from, stays, IsSlidAround}
 use Rattle.pinned_heap.specs.declared.fault.CollectPinnedFault.{CollectPinnedFault}
 use Rattle.pinned_heap.specs.declared.fault.CollectPinnedFault.TheVariants.{Survey, BadPin, TooManyRuns}

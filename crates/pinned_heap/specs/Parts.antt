@@ -5,7 +5,7 @@ use Rattle.heap_layout.specs.declared.edition.Edition.{Edition}
 use Rattle.heap_layout.specs.Bits.{bit}
 use Rattle.heap_layout.specs.Header.{header_of, refs_of, weak_of, size_of}
 use Rattle.heap_layout.specs.Heap.{header_at, IsPlaced, IsValue}
-use Rattle.stopped_heap.specs.Surveys.{marks_of}
+use Rattle.rest_marks.specs.Surveys.{marks_of}
 use Rattle.pinned_heap.specs.Around.{IsFilled}
 use Rattle.pinned_heap.specs.Tables.{end_below, kept_at_place, place_by}
 use Rattle.pinned_heap.specs.declared.run.Run.{Run}

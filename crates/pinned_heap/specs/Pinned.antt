@@ -4,9 +4,9 @@ use Rattle.std.specs.List.{list_any}
 use Rattle.heap_layout.specs.Bits.{bit}
 use Rattle.heap_layout.specs.Heap.{Object, from_address, is_start, live}
 use Rattle.mark_tables.specs.MarkBitmap.{set_bits, AreOffsets}
-use Rattle.stopped_heap.specs.Given.{heap_now}
-use Rattle.stopped_heap.specs.Places.{Found}
-use Rattle.stopped_heap.specs.Surveys.{marks_of}
+use Rattle.rest_marks.specs.Given.{heap_now}
+use Rattle.rest_marks.specs.Places.{Found}
+use Rattle.rest_marks.specs.Surveys.{marks_of}
 use Rattle.pinned_heap.specs.Around.{led_around}
 use Rattle.pinned_heap.specs.Listing.{runs_below}
 use Rattle.pinned_heap.specs.Tables.{end_below, AreBases}

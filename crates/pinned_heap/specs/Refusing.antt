@@ -3,8 +3,8 @@ use Rattle.std.specs.Prelude.{◌≡◌, ℕ, List, ◌++◌, All}
 use Rattle.heap_layout.specs.declared.edition.Edition.{Edition}
 use Rattle.heap_layout.specs.Heap.{IsValue}
 use Rattle.stopped_heap.specs.Growth.{IsFoundIn}
-use Rattle.stopped_heap.specs.Places.{Found}
-use Rattle.stopped_heap.specs.Reached.{AreReached}
+use Rattle.rest_marks.specs.Places.{Found}
+use Rattle.rest_marks.specs.Reached.{AreReached}
 use Rattle.pinned_heap.specs.Collecting.{AreFewWith, RefusesPinned}
 use Rattle.pinned_heap.specs.declared.fault.CollectPinnedFault.{CollectPinnedFault}
 

@@ -6,7 +6,7 @@ ghost use Rattle.pinned_heap.specs.Collecting.{refused_with, AreFewWith, HasColl
 ghost use Rattle.pinned_heap.specs.Pinned.{is_object, is_still, led_in, objects_in};
 ghost use Rattle.pinned_heap.specs.Refusing.{IsPinRefused};
 ghost use Rattle.stopped_heap.specs.Growth.{IsFoundIn};
-ghost use Rattle.stopped_heap.specs.Reached.{AreReached};
+ghost use Rattle.rest_marks.specs.Reached.{AreReached};
 
 use crate::fault::{CollectPinnedFault, PinFault};
 use crate::pinned::Pinned;

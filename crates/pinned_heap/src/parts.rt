@@ -4,7 +4,7 @@ ghost use Rattle.std.specs.Prelude.{◌≡◌, ℕ, ◌≤◌, true};
 ghost use Rattle.std.specs.Thread.{IsSync};
 ghost use Rattle.heap_layout.specs.Bits.{bit};
 ghost use Rattle.mark_tables.specs.MarkBitmap.{AreOffsets};
-ghost use Rattle.stopped_heap.specs.Surveys.{told, AreTables};
+ghost use Rattle.rest_marks.specs.Surveys.{told, AreTables};
 ghost use Rattle.pinned_heap.specs.Around.{IsSlidAround};
 ghost use Rattle.pinned_heap.specs.Parts.{ArePartTables, IsPartSlid};
 ghost use Rattle.pinned_heap.specs.Tables.{AreBases};

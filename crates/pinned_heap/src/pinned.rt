@@ -2,7 +2,7 @@
 ghost use Rattle.std.specs.Prelude.{◌≡◌, ℕ, [], true, length, map, slice_index, List, EachIndex, IfErr, IfOk};
 ghost use Rattle.pinned_heap.specs.Around.{end_from, runs_from, stays, IsSlidAround};
 ghost use Rattle.pinned_heap.specs.Pinned.{is_object, is_still, led_in, objects_in, IsPinFault};
-ghost use Rattle.stopped_heap.specs.Given.{heap_now};
+ghost use Rattle.rest_marks.specs.Given.{heap_now};
 ghost use Rattle.stopped_heap.specs.Growth.{IsFoundIn};
 
 use crate::bases::bases;
@@ -35,7 +35,7 @@ pub struct Pinned<'p> {
 }
 
 impl<'p> Model for Pinned<'p> {
-    ghost use Rattle.stopped_heap.specs.Surveys.{marks_of};
+    ghost use Rattle.rest_marks.specs.Surveys.{marks_of};
     ghost use Rattle.pinned_heap.specs.Pinned.{AreTablesAround, FoundAround};
 
     ghost Value = { FoundAround };

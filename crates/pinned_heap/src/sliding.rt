@@ -3,7 +3,7 @@
 ghost use Rattle.std.specs.Prelude.{◌≡◌, ℕ, ◌+◌, ◌-◌, ◌*◌, ◌<◌, ◌^◌, ◌≤◌, ◌⊎◌, true, false, cond, length, slice_index};
 ghost use Rattle.heap_layout.specs.Bits.{bit};
 ghost use Rattle.heap_layout.specs.Values.{is_immediate};
-ghost use Rattle.stopped_heap.specs.Surveys.{told, AreTables};
+ghost use Rattle.rest_marks.specs.Surveys.{told, AreTables};
 ghost use Rattle.pinned_heap.specs.Around.{IsFilled, IsSlidAround};
 ghost use Rattle.pinned_heap.specs.Parts.{AreObjectsSlid, ArePartTables, IsPartSlid};
 ghost use Rattle.pinned_heap.specs.Tables.{kept_at_place, led_to_place, AreBases};

@@ -13,7 +13,7 @@ use Rattle.comp_cycles.specs.NumberedHeaps.{IsNumberedAs}
 use Rattle.comp_cycles.specs.Stable.{StableHeap}
 use Rattle.comp_cycles.proofs.ObjectWords.{words-length}
 use Rattle.comp_cycles.proofs.Targets.{target_mark}
-use Rattle.stopped_heap.specs.Reached.{IsSound}
+use Rattle.rest_marks.specs.Reached.{IsSound}
 use Rattle.pinned_heap.specs.Around.{is_address_of, led_around, led_object, place_in, stays, IsSlidAround}
 use Rattle.pinned_heap.specs.Collecting.{IsCollectedAround}
 use Rattle.pinned_heap.specs.Pins.{indices_of, places_from, AreAtMost, IsPlacement}

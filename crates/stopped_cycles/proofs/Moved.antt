@@ -17,8 +17,8 @@ use Rattle.comp_cycles.specs.Stable.{StableHeap}
 use Rattle.comp_cycles.proofs.Living.{number_immediate, numbered_reference, numbered_other}
 use Rattle.comp_cycles.proofs.ObjectWords.{word-changed, word-stays}
 use Rattle.comp_cycles.proofs.Targets.{object_long, object_word, target_mark}
-use Rattle.stopped_heap.specs.Places.{led_words}
-use Rattle.stopped_heap.specs.Reached.{is_below, leads_within, IsSound, IsWithin}
+use Rattle.rest_marks.specs.Places.{led_words}
+use Rattle.rest_marks.specs.Reached.{is_below, leads_within, IsSound, IsWithin}
 use Rattle.stopped_cycles.proofs.Numbers.{mark-cases, number-marked, number-none, number-null, numbers-long, IsNoMark}
 
 -- Words are led to the marked objects at their new starts: an immediate stays, the address of an object becomes its new

@@ -11,9 +11,9 @@ use Rattle.comp_cycles.specs.Stable.{StableHeap}
 use Rattle.comp_cycles.proofs.Living.{number_is}
 use Rattle.comp_cycles.proofs.Naming.{at_name, no_name}
 use Rattle.comp_cycles.proofs.Targets.{target_cases, target_mark}
-use Rattle.stopped_heap.specs.Reached.{IsSound}
-use Rattle.stopped_heap.proofs.Heads.{marks-above}
-use Rattle.stopped_heap.proofs.Settling.{is-plain}
+use Rattle.rest_marks.specs.Reached.{IsSound}
+use Rattle.rest_marks.proofs.Heads.{marks-above}
+use Rattle.rest_slide.proofs.Settling.{is-plain}
 
 -- a word is the address of no marked object
 abbrev pub IsNoMark : List ℕ → ℕ → Type 0

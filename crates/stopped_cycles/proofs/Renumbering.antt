@@ -9,11 +9,11 @@ use Rattle.page_plan.proofs.NewAddresses.{forward-none}
 use Rattle.comp_cycles.specs.NumberedHeaps.{IsNumberedAs}
 use Rattle.comp_cycles.specs.Stable.{StableHeap}
 use Rattle.comp_cycles.proofs.Targets.{target_cases}
-use Rattle.stopped_heap.specs.Reached.{IsSound}
-use Rattle.stopped_heap.specs.Settled.{settled_word, settled_words, places, collected}
+use Rattle.rest_marks.specs.Reached.{IsSound}
+use Rattle.rest_slide.specs.Settled.{settled_word, settled_words, places, collected}
 use Rattle.stopped_heap.proofs.Collected.{many, place-at, header-there, placed-there, address-there, collected-accepted}
 use Rattle.stopped_heap.proofs.Rows.{closed-sound}
-use Rattle.stopped_heap.proofs.Settling.{settled-at, settled-immediate, settled-null, settled-lost}
+use Rattle.rest_slide.proofs.Settling.{settled-at, settled-immediate, settled-null, settled-lost}
 use Rattle.stopped_cycles.proofs.Moved.{numbered-moved, IsMoved, LeadsTo}
 use Rattle.stopped_cycles.proofs.Numbers.{IsNoMark}
 

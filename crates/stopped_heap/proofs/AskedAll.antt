@@ -6,14 +6,14 @@ use Rattle.heap_layout.specs.Bits.{bit, leads}
 use Rattle.heap_layout.specs.Heap.{object_at, IsPlaced}
 use Rattle.heap_layout.specs.Values.{is_immediate}
 use Rattle.reachability.specs.Queue.{is_address}
-use Rattle.stopped_heap.specs.Checks.{AreAsked, AreOthers, IsAskFault, IsAskedFault, IsBadWeakOf, IsCheckFault, IsMisplaced, IsUnmarkedOf}
-use Rattle.stopped_heap.specs.Looks.{Looking, AreLookedAt}
-use Rattle.stopped_heap.specs.Marks.{AllKept}
-use Rattle.stopped_heap.specs.Meeting.{AllLead, AreMet, AreOnce}
-use Rattle.stopped_heap.specs.Reached.{is_below, leads_within, IsWordOf}
-use Rattle.stopped_heap.specs.declared.fault.CheckFault.{CheckFault}
-use Rattle.stopped_heap.specs.declared.fault.CheckFault.TheVariants.{WrongLength, Changed, Unmarked, BadWeak, Unowned, OutOfMemory}
-use Rattle.stopped_heap.proofs.Bounding.{bit-inside}
+use Rattle.rest_marks.specs.Checks.{AreAsked, AreOthers, IsAskFault, IsAskedFault, IsBadWeakOf, IsCheckFault, IsMisplaced, IsUnmarkedOf}
+use Rattle.rest_marks.specs.Looks.{Looking, AreLookedAt}
+use Rattle.rest_marks.specs.Marks.{AllKept}
+use Rattle.rest_marks.specs.Meeting.{AllLead, AreMet, AreOnce}
+use Rattle.rest_marks.specs.Reached.{is_below, leads_within, IsWordOf}
+use Rattle.rest_marks.specs.declared.fault.CheckFault.{CheckFault}
+use Rattle.rest_marks.specs.declared.fault.CheckFault.TheVariants.{WrongLength, Changed, Unmarked, BadWeak, Unowned, OutOfMemory}
+use Rattle.rest_marks.proofs.Bounding.{bit-inside}
 
 -- what was asked of the object at index i
 pub record IsAsked (e : Edition) (words heads : List ℕ) (i : ℕ) (old new : List ℕ) : Type 0 where

@@ -25,19 +25,19 @@ use Rattle.page_plan.specs.Sliding.{size, live_words, forward, new_address, numb
 use Rattle.page_plan.proofs.Covering.{live_words-cons}
 use Rattle.mark_tables.specs.LiveWords.{live_below, live_indices}
 use Rattle.page_plan.proofs.Marks.{has-address}
-use Rattle.stopped_heap.proofs.Below.{mark-new_index, leads as target-leads, live_fit, live_words-part}
+use Rattle.rest_marks.proofs.BitsBelow.{mark-new_index, leads as target-leads, live_fit, live_words-part}
 use Rattle.page_plan.proofs.NewAddresses.{forward-none}
 use Rattle.page_plan.proofs.Objects.{live_words-next}
 use Rattle.reachability.specs.Queue.{has}
-use Rattle.stopped_heap.specs.Reached.{IsReachedFrom, by_root, by_reference, AreReached, IsSound}
+use Rattle.rest_marks.specs.Reached.{IsReachedFrom, by_root, by_reference, AreReached, IsSound}
 use Rattle.reachability.proofs.Least.{sizes-none, roots-none, fields-none, target-marked}
 use Rattle.std.proofs.lemmas.List.Elements.{All-contains}
 use Rattle.reachability.proofs.Queues.{place-of, has-at}
 use Rattle.reachability.proofs.Rising.{contains-had, has-contained, rises, rises-short, rises-marked}
-use Rattle.stopped_heap.proofs.Targets.{value-back}
-use Rattle.stopped_heap.specs.Settled.{lowered, settled_word, settled, settled_words, places, collected}
-use Rattle.stopped_heap.proofs.Heads.{any-at}
-use Rattle.stopped_heap.proofs.Settling.{settled-length, settled-header, settled-refers, settled-at, settled-all, is-plain, lowered-plain, settled-immediate, settled-plain, settled-null, settled-lost}
+use Rattle.rest_slide.proofs.Targets.{value-back}
+use Rattle.rest_slide.specs.Settled.{lowered, settled_word, settled, settled_words, places, collected}
+use Rattle.rest_marks.proofs.Heads.{any-at}
+use Rattle.rest_slide.proofs.Settling.{settled-length, settled-header, settled-refers, settled-at, settled-all, is-plain, lowered-plain, settled-immediate, settled-plain, settled-null, settled-lost}
 
 -- ---- rows of objects
 

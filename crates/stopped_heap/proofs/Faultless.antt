@@ -7,14 +7,14 @@ use Rattle.heap_layout.specs.Heap.{Heap, header_at, from_address, IsPlaced, IsTa
 use Rattle.heap_layout.specs.Values.{is_immediate}
 use Rattle.heap_layout.proofs.Values.{value-cases}
 use Rattle.reachability.specs.Queue.{is_address}
-use Rattle.stopped_heap.proofs.Targets.{target-cases}
+use Rattle.rest_slide.proofs.Targets.{target-cases}
 use Rattle.reachability.proofs.Queues.{place-of}
 use Rattle.reachability.proofs.Rising.{has-contained}
-use Rattle.stopped_heap.specs.Reached.{is_below, leads_within, is_within, IsReachedFrom, AreReached, IsSound, IsFaultOf}
-use Rattle.stopped_heap.specs.declared.fault.SurveyFault.{SurveyFault}
-use Rattle.stopped_heap.specs.declared.fault.SurveyFault.TheVariants.{TooLarge, BadRoot, BadReference, BadWeak, ObjectTooLong, ObjectPastEnd, Overlap, OutOfMemory}
-use Rattle.stopped_heap.proofs.Below.{reference-value}
-use Rattle.stopped_heap.proofs.Heads.{marks-apart}
+use Rattle.rest_marks.specs.Reached.{is_below, leads_within, is_within, IsReachedFrom, AreReached, IsSound, IsFaultOf}
+use Rattle.rest_marks.specs.declared.fault.SurveyFault.{SurveyFault}
+use Rattle.rest_marks.specs.declared.fault.SurveyFault.TheVariants.{TooLarge, BadRoot, BadReference, BadWeak, ObjectTooLong, ObjectPastEnd, Overlap, OutOfMemory}
+use Rattle.rest_marks.proofs.BitsBelow.{reference-value}
+use Rattle.rest_marks.proofs.Heads.{marks-apart}
 
 module _ (heap : Heap) (sound : IsSound heap) (are : AreReached heap.edition heap.words heap.roots heap.marks) where
   -- the number of an object that is reached

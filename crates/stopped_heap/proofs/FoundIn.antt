@@ -20,20 +20,20 @@ use Rattle.page_plan.proofs.Marks.{length-live}
 use Rattle.page_plan.proofs.Ranks.{covered}
 use Rattle.reachability.proofs.Rising.{contains-had, has-contained}
 use Rattle.stopped_heap.specs.Ephemerons.{AreHeld}
-use Rattle.stopped_heap.specs.Growing.{roots_on, AreMarked, IsGrown, IsGrownIn, IsSeenFaultOf}
+use Rattle.rest_marks.specs.Growing.{roots_on, AreMarked, IsGrown, IsGrownIn, IsSeenFaultOf}
 use Rattle.stopped_heap.specs.Growth.{mixed, AreGrownOf, HasGrown, HasHeld, IsFoundIn, IsGrowthFaultOf, IsGrowthHeldFaultOf, IsSeenHeldFaultOf}
-use Rattle.stopped_heap.specs.Marks.{AllKept}
-use Rattle.stopped_heap.specs.Meeting.{AllLead, AreApart, AreOnce}
-use Rattle.stopped_heap.specs.Places.{found_in, Found}
-use Rattle.stopped_heap.specs.Reached.{AreReached, IsWordOf}
-use Rattle.stopped_heap.specs.Surveys.{marks_of, told}
-use Rattle.stopped_heap.specs.declared.fault.SurveyFault.{SurveyFault}
+use Rattle.rest_marks.specs.Marks.{AllKept}
+use Rattle.rest_marks.specs.Meeting.{AllLead, AreApart, AreOnce}
+use Rattle.rest_marks.specs.Places.{found_in, Found}
+use Rattle.rest_marks.specs.Reached.{AreReached, IsWordOf}
+use Rattle.rest_marks.specs.Surveys.{marks_of, told}
+use Rattle.rest_marks.specs.declared.fault.SurveyFault.{SurveyFault}
 use Rattle.stopped_heap.proofs.AskedAll.{kept-lead}
-use Rattle.stopped_heap.proofs.Bounding.{bit-inside}
-use Rattle.stopped_heap.proofs.Grown.{mark-of, marked-indices, marked-told, reached-together, set-of}
-use Rattle.stopped_heap.proofs.Heads.{any-at, head-number, heads-lead, mark-set, marks-above, marks-apart}
-use Rattle.stopped_heap.proofs.Placing.{index-is, starts-next}
-use Rattle.stopped_heap.proofs.Seen.{alike-same, fault-seen, same-object}
+use Rattle.rest_marks.proofs.Bounding.{bit-inside}
+use Rattle.rest_marks.proofs.Grown.{mark-of, marked-indices, marked-told, reached-together, set-of}
+use Rattle.rest_marks.proofs.Heads.{any-at, head-number, heads-lead, mark-set, marks-above, marks-apart}
+use Rattle.rest_slide.proofs.Placing.{index-is, starts-next}
+use Rattle.rest_marks.proofs.Seen.{alike-same, fault-seen, same-object}
 use Rattle.stopped_heap.proofs.SeenHeld.{held-fault-seen}
 
 -- ---- live words and bits

@@ -13,13 +13,13 @@ use Rattle.heap_layout.specs.Header.{header_of, refs_in, data_in, weak_in, refs_
 use Rattle.heap_layout.specs.Heap.{Heap, header_at}
 use Rattle.heap_layout.specs.Limits.{most_words, most_roots, most_object_words}
 use Rattle.mark_tables.specs.MarkBitmap.{AreOffsets}
-use Rattle.stopped_heap.specs.Given.{AreRuns}
-use Rattle.stopped_heap.specs.Marks.{AllKept, IsKept}
-use Rattle.stopped_heap.specs.Meeting.{AreApart}
-use Rattle.stopped_heap.specs.Places.{found_in, AreTablesOf, IsFoundOf}
-use Rattle.stopped_heap.specs.Reached.{IsWordOf}
-use Rattle.stopped_heap.specs.Surveys.{told}
-use Rattle.stopped_heap.proofs.Lent.{told-sound, told-indices}
+use Rattle.rest_marks.specs.Given.{AreRuns}
+use Rattle.rest_marks.specs.Marks.{AllKept, IsKept}
+use Rattle.rest_marks.specs.Meeting.{AreApart}
+use Rattle.rest_marks.specs.Places.{found_in, AreTablesOf, IsFoundOf}
+use Rattle.rest_marks.specs.Reached.{IsWordOf}
+use Rattle.rest_marks.specs.Surveys.{told}
+use Rattle.rest_marks.proofs.Lent.{told-sound, told-indices}
 
 -- the header of an object of data words alone
 record IsPlain (edition : Edition) (word rest : ℕ) : Type 0 where

@@ -18,15 +18,15 @@ use Rattle.reachability.proofs.Indices.{index-there}
 use Rattle.reachability.proofs.Queues.{has-first, has-later}
 use Rattle.reachability.proofs.Rising.{contains-had, has-contained}
 use Rattle.stopped_heap.specs.Ephemerons.{IsHeld, held_mark, held_reference, AreHeld, IsHeldFaultOf}
-use Rattle.stopped_heap.specs.Growing.{roots_on, IsMoreFaultOf}
+use Rattle.rest_marks.specs.Growing.{roots_on, IsMoreFaultOf}
 use Rattle.stopped_heap.specs.Guarded.{rooted, is_lost, numbered, AreHeldFrom, IsGuardedFaultOf, IsOnFaultOf}
-use Rattle.stopped_heap.specs.Meeting.{AllLead}
-use Rattle.stopped_heap.specs.Reached.{is_within, IsStray, LeadInto, IsReachedFrom, by_root, by_reference, AreReached, IsFaultOf}
-use Rattle.stopped_heap.specs.declared.fault.SurveyFault.{SurveyFault}
-use Rattle.stopped_heap.specs.declared.fault.SurveyFault.TheVariants.{TooLarge, BadRoot, BadReference, BadWeak, ObjectTooLong, ObjectPastEnd, Overlap, OutOfMemory}
-use Rattle.stopped_heap.proofs.Grown.{lead-cases, lead-left, lead-marked, lead-right, marked-lead}
+use Rattle.rest_marks.specs.Meeting.{AllLead}
+use Rattle.rest_marks.specs.Reached.{is_within, IsStray, LeadInto, IsReachedFrom, by_root, by_reference, AreReached, IsFaultOf}
+use Rattle.rest_marks.specs.declared.fault.SurveyFault.{SurveyFault}
+use Rattle.rest_marks.specs.declared.fault.SurveyFault.TheVariants.{TooLarge, BadRoot, BadReference, BadWeak, ObjectTooLong, ObjectPastEnd, Overlap, OutOfMemory}
+use Rattle.rest_marks.proofs.Grown.{lead-cases, lead-left, lead-marked, lead-right, marked-lead}
 use Rattle.stopped_heap.proofs.Held.{fault-through, held-through}
-use Rattle.stopped_heap.proofs.Reaching.{reached-inside}
+use Rattle.rest_marks.proofs.Reaching.{reached-inside}
 
 -- ---- the objects to which roots lead
 

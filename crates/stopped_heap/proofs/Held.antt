@@ -15,15 +15,15 @@ use Rattle.heap_layout.proofs.Values.{no-immediate}
 use Rattle.reachability.specs.Queue.{has, is_address}
 use Rattle.reachability.proofs.Rising.{has-contained}
 use Rattle.stopped_heap.specs.Ephemerons.{IsHeld, held_immediate, held_mark, held_reference, held_value, AreHeld, IsLive, IsSettled, IsHeldFaultOf}
-use Rattle.stopped_heap.specs.Growing.{roots_on, AreMarked, IsBegun, IsMoreFaultOf}
-use Rattle.stopped_heap.specs.Reached.{is_within, LeadInto, IsReachedFrom, by_root, by_reference, AreReached}
-use Rattle.stopped_heap.specs.Surveys.{marks_of}
-use Rattle.stopped_heap.specs.declared.fault.SurveyFault.{SurveyFault}
-use Rattle.stopped_heap.specs.declared.fault.SurveyFault.TheVariants.{TooLarge, BadRoot, BadReference, BadWeak, ObjectTooLong, ObjectPastEnd, Overlap, OutOfMemory}
-use Rattle.stopped_heap.proofs.Grown.{address-back, had-cases, kept-marked, kept-word, lead-cases, lead-left, lead-marked, marked-lead, mark-of, set-of}
-use Rattle.stopped_heap.proofs.Queued.{once-push}
-use Rattle.stopped_heap.proofs.Reaching.{reached-inside}
-use Rattle.stopped_heap.proofs.Surveying.{marks-rising}
+use Rattle.rest_marks.specs.Growing.{roots_on, AreMarked, IsBegun, IsMoreFaultOf}
+use Rattle.rest_marks.specs.Reached.{is_within, LeadInto, IsReachedFrom, by_root, by_reference, AreReached}
+use Rattle.rest_marks.specs.Surveys.{marks_of}
+use Rattle.rest_marks.specs.declared.fault.SurveyFault.{SurveyFault}
+use Rattle.rest_marks.specs.declared.fault.SurveyFault.TheVariants.{TooLarge, BadRoot, BadReference, BadWeak, ObjectTooLong, ObjectPastEnd, Overlap, OutOfMemory}
+use Rattle.rest_marks.proofs.Grown.{address-back, had-cases, kept-marked, kept-word, lead-cases, lead-left, lead-marked, marked-lead, mark-of, set-of}
+use Rattle.rest_marks.proofs.Queued.{once-push}
+use Rattle.rest_marks.proofs.Reaching.{reached-inside}
+use Rattle.rest_marks.proofs.Surveying.{marks-rising}
 
 -- the address of a marked object is live
 pub address-live : (edition : Edition) (heads : List ℕ) (i : ℕ) → bit heads i ≡ true → IsLive edition heads (from_address i)

@@ -6,16 +6,16 @@ use Rattle.heap_layout.specs.Heap.{Heap, live}
 use Rattle.page_plan.specs.Sliding.{live_words}
 use Rattle.stopped_heap.specs.Collecting.{IsCollected, HasCollected, RefusesCollection}
 use Rattle.stopped_heap.specs.InPlace.{HaveLeftTheSame}
-use Rattle.stopped_heap.specs.Reached.{IsFaultOf}
-use Rattle.stopped_heap.specs.Settled.{collected, settled_words}
-use Rattle.stopped_heap.specs.declared.fault.CollectFault.{CollectFault}
-use Rattle.stopped_heap.specs.declared.fault.CollectFault.TheVariants.{Survey, NoRoom}
-use Rattle.stopped_heap.specs.declared.fault.SurveyFault.{SurveyFault}
-use Rattle.stopped_heap.specs.declared.fault.SurveyFault.TheVariants.{OutOfMemory}
-use Rattle.stopped_heap.proofs.Below.{live_fit}
+use Rattle.rest_marks.specs.Reached.{IsFaultOf}
+use Rattle.rest_slide.specs.Settled.{collected, settled_words}
+use Rattle.rest_marks.specs.declared.fault.CollectFault.{CollectFault}
+use Rattle.rest_marks.specs.declared.fault.CollectFault.TheVariants.{Survey, NoRoom}
+use Rattle.rest_marks.specs.declared.fault.SurveyFault.{SurveyFault}
+use Rattle.rest_marks.specs.declared.fault.SurveyFault.TheVariants.{OutOfMemory}
+use Rattle.rest_marks.proofs.BitsBelow.{live_fit}
 use Rattle.stopped_heap.proofs.Faultless.{faultless}
 use Rattle.stopped_heap.proofs.Once.{once}
-use Rattle.stopped_heap.proofs.Settling.{settled-all}
+use Rattle.rest_slide.proofs.Settling.{settled-all}
 
 -- the live words are the first ones
 first-words : (heap : Heap) (count : ℕ) (roots before after : List ℕ) → IsCollected heap count roots before after → take count after ≡ settled_words (live heap)

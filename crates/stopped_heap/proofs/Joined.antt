@@ -6,9 +6,9 @@ use Rattle.std.proofs.lemmas.List.Sums.{sum_by-cons}
 use Rattle.heap_layout.specs.Heap.{Heap, live}
 use Rattle.page_plan.specs.Sliding.{live_words}
 use Rattle.stopped_heap.specs.SlideParts.{joined_parts}
-use Rattle.stopped_heap.specs.Reached.{IsSound}
-use Rattle.stopped_heap.specs.Settled.{settled_words, collected}
-use Rattle.stopped_heap.proofs.Settling.{settled-all}
+use Rattle.rest_marks.specs.Reached.{IsSound}
+use Rattle.rest_slide.specs.Settled.{settled_words, collected}
+use Rattle.rest_slide.proofs.Settling.{settled-all}
 
 -- they are as many words as they have together
 joined-take : (words : List ℕ) (first : ℕ) (counts : List ℕ) → joined_parts words first counts ≡ take (sum counts) (drop first words)

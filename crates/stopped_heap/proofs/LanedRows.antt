@@ -6,10 +6,10 @@ use Rattle.heap_layout.specs.declared.edition.Edition.{Edition}
 use Rattle.heap_layout.specs.Bits.{bit}
 use Rattle.heap_layout.specs.Header.{size_of}
 use Rattle.heap_layout.specs.Heap.{header_at, object_at}
-use Rattle.stopped_heap.specs.Lanes.{laned, IsLaneAfterRows, IsLedTo, IsLedToByRows, IsTold}
-use Rattle.stopped_heap.specs.LookFaults.{IsWordOfRows}
-use Rattle.stopped_heap.specs.Looks.{AreLookedAt, AreRowsAt, IsAt}
-use Rattle.stopped_heap.proofs.Laned.{told-none, told-then, told-wide}
+use Rattle.rest_marks.specs.Lanes.{laned, IsLaneAfterRows, IsLedTo, IsLedToByRows, IsTold}
+use Rattle.rest_marks.specs.LookFaults.{IsWordOfRows}
+use Rattle.rest_marks.specs.Looks.{AreLookedAt, AreRowsAt, IsAt}
+use Rattle.rest_marks.proofs.Laned.{told-none, told-then, told-wide}
 
 -- What is known where a lane looked at the objects of the first k rows.
 pub record AreLaneTaken (e : Edition) (count : ℕ) (old queue : List ℕ) (first k : ℕ) (rows : List (List ℕ)) (old_known old_bits known bits : List ℕ) : Type 0 where

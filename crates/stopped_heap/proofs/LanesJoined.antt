@@ -11,11 +11,11 @@ use Rattle.heap_layout.specs.Heap.{object_at}
 use Rattle.heap_layout.specs.Values.{is_immediate}
 use Rattle.reachability.specs.Queue.{has, is_address}
 use Rattle.reachability.proofs.Queues.{has-at, place-of}
-use Rattle.stopped_heap.specs.LaneParts.{joined_met, met_at, with_one, AreBoth, AreDisjoint}
-use Rattle.stopped_heap.specs.Looks.{AreLookedAt}
-use Rattle.stopped_heap.specs.Marks.{AllKept}
-use Rattle.stopped_heap.specs.Meeting.{AreMet, AreOnce, IsDone}
-use Rattle.stopped_heap.specs.Reached.{IsWordOf}
+use Rattle.rest_marks.specs.LaneParts.{joined_met, met_at, with_one, AreBoth, AreDisjoint}
+use Rattle.rest_marks.specs.Looks.{AreLookedAt}
+use Rattle.rest_marks.specs.Marks.{AllKept}
+use Rattle.rest_marks.specs.Meeting.{AreMet, AreOnce, IsDone}
+use Rattle.rest_marks.specs.Reached.{IsWordOf}
 
 -- ---- what a queue has
 

@@ -9,12 +9,12 @@ use Rattle.heap_layout.specs.Limits.{most_words, most_roots}
 use Rattle.mark_tables.specs.MarkBitmap.{set_bits}
 use Rattle.mark_tables.specs.LiveWords.{live_indices}
 use Rattle.reachability.proofs.Rising.{contains-had}
-use Rattle.stopped_heap.specs.Reached.{AreReached, IsSound}
-use Rattle.stopped_heap.specs.Rounds.{AreAllMarked}
-use Rattle.stopped_heap.specs.Surveys.{marks_of, told}
+use Rattle.rest_marks.specs.Reached.{AreReached, IsSound}
+use Rattle.rest_marks.specs.Rounds.{AreAllMarked}
+use Rattle.rest_marks.specs.Surveys.{marks_of, told}
 use Rattle.stopped_heap.proofs.Collected.{reached-marked}
-use Rattle.stopped_heap.proofs.Lent as lent
-use Rattle.stopped_heap.proofs.Surveying.{marks-rising}
+use Rattle.rest_marks.proofs.Lent as lent
+use Rattle.rest_marks.proofs.Surveying.{marks-rising}
 
 module _ (edition : Edition) (words roots heads bits : List ℕ) (few : length words ≤ most_words edition) (few_roots : length roots ≤ most_roots edition)
     (are : AreAllMarked edition words roots heads bits) where

@@ -5,11 +5,11 @@ use Rattle.std.proofs.lemmas.List.Folds.{list_any-append}
 use Rattle.heap_layout.specs.declared.edition.Edition.{Edition}
 use Rattle.heap_layout.specs.Bits.{bit}
 use Rattle.reachability.specs.Queue.{has}
-use Rattle.stopped_heap.specs.Growing.{AreMarked, IsGrown}
-use Rattle.stopped_heap.specs.Meeting.{AreMet, AreOnce}
-use Rattle.stopped_heap.specs.Surveys.{AreTables}
+use Rattle.rest_marks.specs.Growing.{AreMarked, IsGrown}
+use Rattle.rest_marks.specs.Meeting.{AreMet, AreOnce}
+use Rattle.rest_marks.specs.Surveys.{AreTables}
 use Rattle.stopped_heap.proofs.FoundIn.{found-marked}
-use Rattle.stopped_heap.proofs.Queued.{once-none, once-push}
+use Rattle.rest_marks.proofs.Queued.{once-none, once-push}
 
 -- the queue has the indices of the set bits below n, each once
 pub record AreListed (heads : List ℕ) (n : ℕ) (queue : List ℕ) : Type 0 where

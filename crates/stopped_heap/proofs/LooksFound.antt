@@ -7,16 +7,16 @@ use Rattle.heap_layout.specs.Heap.{IsValue}
 use Rattle.heap_layout.specs.Limits.{most_words, most_roots}
 use Rattle.mark_tables.specs.MarkBitmap.{set_bits}
 use Rattle.reachability.proofs.Queues.{place-of}
-use Rattle.stopped_heap.specs.Given.{heap_now}
-use Rattle.stopped_heap.specs.Looks.{AreLookedAt}
-use Rattle.stopped_heap.specs.Marks.{AllKept, IsKept}
-use Rattle.stopped_heap.specs.Meeting.{AreMet}
-use Rattle.stopped_heap.specs.Places.{found_in, Found, IsFoundOf}
-use Rattle.stopped_heap.specs.Reached.{IsWordOf}
-use Rattle.stopped_heap.specs.Surveys.{marks_of}
-use Rattle.stopped_heap.proofs.Lent.{told-sound, told-indices}
-use Rattle.stopped_heap.proofs.LookedAt.{spread-of}
-use Rattle.stopped_heap.proofs.Spread.{spread-only, spread-apart}
+use Rattle.rest_marks.specs.Given.{heap_now}
+use Rattle.rest_marks.specs.Looks.{AreLookedAt}
+use Rattle.rest_marks.specs.Marks.{AllKept, IsKept}
+use Rattle.rest_marks.specs.Meeting.{AreMet}
+use Rattle.rest_marks.specs.Places.{found_in, Found, IsFoundOf}
+use Rattle.rest_marks.specs.Reached.{IsWordOf}
+use Rattle.rest_marks.specs.Surveys.{marks_of}
+use Rattle.rest_marks.proofs.Lent.{told-sound, told-indices}
+use Rattle.rest_marks.proofs.LookedAt.{spread-of}
+use Rattle.rest_marks.proofs.Spread.{spread-only, spread-apart}
 
 module _ (edition : Edition) (count : ℕ) (words met : List ℕ) (next : ℕ) (heads bits roots : List ℕ) (counted : length words ≡ count) (few : count ≤ most_words edition)
     (few_roots : length roots ≤ most_roots edition) (same : length heads ≡ length bits) (room : count ≤ 64 * length bits) (are_met : AreMet met heads) (within : next ≤ length met) (all : length met ≤ next)

@@ -7,7 +7,7 @@ use Rattle.heap_layout.specs.Heap.{Heap, Object, object_at, live}
 use Rattle.heap_layout.specs.declared.kind.Kind.{Kind}
 use Rattle.heap_layout.specs.declared.kind.Kind.TheVariants.{Reference, Weak, Data}
 use Rattle.page_plan.specs.Sliding.{forwarded_value, kinds_of, moved}
-use Rattle.stopped_heap.specs.Settled.{settled, settled_as, settled_word, AreSlid}
+use Rattle.rest_slide.specs.Settled.{settled, settled_as, settled_word, AreSlid}
 
 -- the first words are the second ones of these kinds after the collection
 abbrev Lined : Edition → List ℕ → List ℕ → List Kind → Type 0

@@ -2,7 +2,7 @@
 use Rattle.std.proofs.Common.{◌≡◌, ℕ, List, arith}
 use Rattle.heap_layout.specs.declared.edition.Edition.{Edition}
 use Rattle.reachability.proofs.Rising.{contains-had, has-contained, Rises, rises, rises-same}
-use Rattle.stopped_heap.specs.Reached.{AreReached}
+use Rattle.rest_marks.specs.Reached.{AreReached}
 
 marks-rise : (edition : Edition) (words roots marks : List ℕ) → AreReached edition words roots marks → Rises 0 marks
 marks-rise edition words roots marks are = rises 0 marks are.rising (λ some. omega arith)

@@ -7,12 +7,12 @@ use Rattle.heap_layout.specs.Values.{is_immediate}
 use Rattle.heap_layout.proofs.Values.{value-cases}
 use Rattle.reachability.specs.Queue.{has, is_address}
 use Rattle.reachability.specs.Reachable as row
-use Rattle.stopped_heap.proofs.Targets.{target-cases}
+use Rattle.rest_slide.proofs.Targets.{target-cases}
 use Rattle.reachability.proofs.Queues.{place-of}
 use Rattle.reachability.proofs.Rising.{contains-had}
 use Rattle.reachability.proofs.Starts.{starts-within}
-use Rattle.stopped_heap.specs.Reached.{is_below, leads_within, is_within, IsReachedFrom, by_root, by_reference, AreReached, IsSound}
-use Rattle.stopped_heap.proofs.Heads.{any-at}
+use Rattle.rest_marks.specs.Reached.{is_below, leads_within, is_within, IsReachedFrom, by_root, by_reference, AreReached, IsSound}
+use Rattle.rest_marks.proofs.Heads.{any-at}
 use Rattle.stopped_heap.proofs.Collected.{reached-marked}
 
 start-had : (row : List ℕ) (i : ℕ) → has row i ≡ true → is_start row i ≡ true

@@ -5,15 +5,15 @@ use Rattle.heap_layout.specs.declared.edition.Edition.{Edition}
 use Rattle.heap_layout.specs.Bits.{bit}
 use Rattle.heap_layout.specs.Heap.{from_address}
 use Rattle.stopped_heap.specs.Ephemerons.{IsHeld, IsHeldFaultOf}
-use Rattle.stopped_heap.specs.Growing.{roots_on, AreReady, IsGrownIn, IsSeenFaultOf}
+use Rattle.rest_marks.specs.Growing.{roots_on, AreReady, IsGrownIn, IsSeenFaultOf}
 use Rattle.stopped_heap.specs.Growth.{IsSeenHeldFaultOf}
-use Rattle.stopped_heap.specs.Reached.{is_within, IsReachedFrom}
-use Rattle.stopped_heap.specs.Surveys.{marks_of}
-use Rattle.stopped_heap.specs.declared.fault.SurveyFault.{SurveyFault}
-use Rattle.stopped_heap.specs.declared.fault.SurveyFault.TheVariants.{TooLarge, BadRoot, BadReference, BadWeak, ObjectTooLong, ObjectPastEnd, Overlap, OutOfMemory}
-use Rattle.stopped_heap.proofs.Grown.{set-of}
+use Rattle.rest_marks.specs.Reached.{is_within, IsReachedFrom}
+use Rattle.rest_marks.specs.Surveys.{marks_of}
+use Rattle.rest_marks.specs.declared.fault.SurveyFault.{SurveyFault}
+use Rattle.rest_marks.specs.declared.fault.SurveyFault.TheVariants.{TooLarge, BadRoot, BadReference, BadWeak, ObjectTooLong, ObjectPastEnd, Overlap, OutOfMemory}
+use Rattle.rest_marks.proofs.Grown.{set-of}
 use Rattle.stopped_heap.proofs.Held.{fault-held, fault-through, held-through}
-use Rattle.stopped_heap.proofs.Seen.{grown-ready}
+use Rattle.rest_marks.proofs.Seen.{grown-ready}
 
 -- tables that grew in the words that were seen are ready for words of as many
 pub in-ready : (edition : Edition) (words seen queue heads bits : List ℕ) → IsGrownIn edition words seen queue heads bits → AreReady edition (length words) queue heads bits

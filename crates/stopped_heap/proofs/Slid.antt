@@ -12,11 +12,11 @@ use Rattle.heap_layout.specs.Limits.{most_roots}
 use Rattle.mark_tables.specs.LiveWords.{live_indices, live_words, size}
 use Rattle.page_plan.proofs.Marks.{length-live}
 use Rattle.reachability.proofs.Rising.{contains-had}
-use Rattle.stopped_heap.specs.Given.{heap_now, HasCollectedAs, HasSlid, HasWeak}
-use Rattle.stopped_heap.specs.Places.{led_by, owner, words_now, Found, IsAsFound, IsFoundOf, IsReferenceNow}
-use Rattle.stopped_heap.specs.Reached.{IsReachedFrom, IsSound}
+use Rattle.rest_marks.specs.Given.{heap_now, HasCollectedAs, HasSlid, HasWeak}
+use Rattle.rest_marks.specs.Places.{led_by, owner, words_now, Found, IsAsFound, IsFoundOf, IsReferenceNow}
+use Rattle.rest_marks.specs.Reached.{IsReachedFrom, IsSound}
 use Rattle.stopped_heap.proofs.Collected.{reached-marked}
-use Rattle.stopped_heap.proofs.Placing.{found_of, place-is, starts-next, size-is, index-is, owner-is}
+use Rattle.rest_slide.proofs.Placing.{found_of, place-is, starts-next, size-is, index-is, owner-is}
 
 -- the live words are where they were if the objects are as long
 same-indices : (e : Edition) (ws vs ms : List ℕ) → ((k : ℕ) → k < length ms → size_of (header_at e ws (get_or ms k 0)) ≡ size_of (header_at e vs (get_or ms k 0)))

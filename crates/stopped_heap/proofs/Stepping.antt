@@ -5,12 +5,12 @@ use Rattle.heap_layout.specs.declared.edition.Edition.{Edition}
 use Rattle.heap_layout.specs.Heap.{Heap, live}
 use Rattle.mark_tables.specs.LiveWords.{live_indices}
 use Rattle.reachability.proofs.Rising.{has-contained}
-use Rattle.stopped_heap.specs.Given.{heap_now}
+use Rattle.rest_marks.specs.Given.{heap_now}
 use Rattle.stopped_heap.specs.Growth.{IsFoundIn}
-use Rattle.stopped_heap.specs.Places.{Found}
-use Rattle.stopped_heap.specs.Reached.{AreReached}
+use Rattle.rest_marks.specs.Places.{Found}
+use Rattle.rest_marks.specs.Reached.{AreReached}
 use Rattle.stopped_heap.specs.Steps.{Step, AreSteps, roots_of_all, kept_at_last, GrowthStep, AreGrowthSteps, growth_roots, found_at_last, AreFoundAlike}
-use Rattle.stopped_heap.proofs.Grown.{reached-together}
+use Rattle.rest_marks.proofs.Grown.{reached-together}
 use Rattle.stopped_heap.proofs.Guardians.{none-reached}
 use Rattle.stopped_heap.proofs.Once.{once}
 

@@ -15,12 +15,12 @@ use Rattle.mark_tables.specs.LiveWords.{live_indices, live_words, live_below}
 use Rattle.page_plan.proofs.Marks.{length-live}
 use Rattle.page_plan.proofs.Ranks.{covered}
 use Rattle.reachability.specs.Queue.{is_address}
-use Rattle.stopped_heap.specs.Given.{heap_now, HasSlid, HasWeak}
-use Rattle.stopped_heap.specs.Places.{led_by, led_words, owner, word_now, words_now, Found, IsAsFound, IsFoundOf, IsReferenceNow}
-use Rattle.stopped_heap.specs.Reached.{is_below, leads_within, is_within, IsSound}
+use Rattle.rest_marks.specs.Given.{heap_now, HasSlid, HasWeak}
+use Rattle.rest_marks.specs.Places.{led_by, led_words, owner, word_now, words_now, Found, IsAsFound, IsFoundOf, IsReferenceNow}
+use Rattle.rest_marks.specs.Reached.{is_below, leads_within, is_within, IsSound}
 use Rattle.stopped_heap.specs.Tidied.{is_wild_of, is_wild, tidied}
-use Rattle.stopped_heap.proofs.Led.{led-header, led-refers, led-data}
-use Rattle.stopped_heap.proofs.Placing.{found_of, starts-next, index-is, owner-is, word-is}
+use Rattle.rest_slide.proofs.Led.{led-header, led-refers, led-data}
+use Rattle.rest_slide.proofs.Placing.{found_of, starts-next, index-is, owner-is, word-is}
 use Rattle.stopped_heap.proofs.Slid.{found-is, same-size, still-found}
 
 not-true : (b : Bool) → not b ≡ true → b ≡ false

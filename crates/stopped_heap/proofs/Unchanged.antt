@@ -14,14 +14,14 @@ use Rattle.page_plan.specs.Sliding.{live_words}
 use Rattle.page_plan.proofs.Marks.{length-live}
 use Rattle.page_plan.proofs.NewAddresses.{forward-none}
 use Rattle.page_plan.proofs.Ranks.{covered}
-use Rattle.stopped_heap.specs.Places.{led_by, led_words, word_now, words_now, Found, IsFoundOf, IsReferenceNow, IsSlideFault}
-use Rattle.stopped_heap.specs.Reached.{IsSound}
-use Rattle.stopped_heap.specs.Settled.{lowered, settled_word, settled_words}
-use Rattle.stopped_heap.specs.declared.fault.SlideFault.{SlideFault}
-use Rattle.stopped_heap.specs.declared.fault.SlideFault.TheVariants.{NoSuchPart, OtherCount, Changed, Unmarked}
-use Rattle.stopped_heap.proofs.Below.{reference-value, leads as target-leads}
-use Rattle.stopped_heap.proofs.Placing.{found_of, starts-next, size-is, index-is, owner-is, word-is}
-use Rattle.stopped_heap.proofs.Settling.{settled-all, settled-at, settled-immediate, settled-plain, settled-null, settled-lost, lowered-plain}
+use Rattle.rest_marks.specs.Places.{led_by, led_words, word_now, words_now, Found, IsFoundOf, IsReferenceNow, IsSlideFault}
+use Rattle.rest_marks.specs.Reached.{IsSound}
+use Rattle.rest_slide.specs.Settled.{lowered, settled_word, settled_words}
+use Rattle.rest_marks.specs.declared.fault.SlideFault.{SlideFault}
+use Rattle.rest_marks.specs.declared.fault.SlideFault.TheVariants.{NoSuchPart, OtherCount, Changed, Unmarked}
+use Rattle.rest_marks.proofs.BitsBelow.{reference-value, leads as target-leads}
+use Rattle.rest_slide.proofs.Placing.{found_of, starts-next, size-is, index-is, owner-is, word-is}
+use Rattle.rest_slide.proofs.Settling.{settled-all, settled-at, settled-immediate, settled-plain, settled-null, settled-lost, lowered-plain}
 
 -- what was found of a heap is what is found of it
 found-is : (found : Found) (heap : Heap) → IsFoundOf found heap → found_of heap found.room ≡ found

@@ -7,11 +7,11 @@ use Rattle.heap_layout.specs.Heap.{Heap, live, is_value}
 use Rattle.heap_layout.specs.Values.{or_immediate}
 use Rattle.mark_tables.specs.MarkBitmap.{set_bits}
 use Rattle.page_plan.specs.Sliding.{live_words}
-use Rattle.stopped_heap.specs.Looking.{kept_by}
-use Rattle.stopped_heap.specs.Settled.{settled_word}
-use Rattle.stopped_heap.specs.Surveys.{told, AreTables}
-use Rattle.stopped_heap.proofs.Heads.{heads-lead, all-words}
-use Rattle.stopped_heap.proofs.Settling.{kept-settled}
+use Rattle.rest_marks.specs.Looking.{kept_by}
+use Rattle.rest_slide.specs.Settled.{settled_word}
+use Rattle.rest_marks.specs.Surveys.{told, AreTables}
+use Rattle.rest_marks.proofs.Heads.{heads-lead, all-words}
+use Rattle.rest_slide.proofs.Settling.{kept-settled}
 
 -- a value, by the bits that were lent
 pub value-seen : (edition : Edition) (words lent heads : List ℕ) (heap : Heap) (word : ℕ) → lent ≡ heads → told edition words heads ≡ heap

@@ -16,18 +16,18 @@ use Rattle.heap_layout.proofs.Bounds.{words_most}
 use Rattle.reachability.specs.Queue.{has, is_address}
 use Rattle.reachability.proofs.Queues.{has-at, has-first, has-later, place-of}
 use Rattle.reachability.proofs.Rising.{contains-had, has-contained}
-use Rattle.stopped_heap.specs.Growing.{roots_on, IsBegun, IsMoreFaultOf}
+use Rattle.rest_marks.specs.Growing.{roots_on, IsBegun, IsMoreFaultOf}
 use Rattle.stopped_heap.specs.Guarded.{is_lost}
-use Rattle.stopped_heap.specs.Meeting.{AllLead}
+use Rattle.rest_marks.specs.Meeting.{AllLead}
 use Rattle.stopped_heap.specs.Ordered.{references_of_all, ReachEach}
-use Rattle.stopped_heap.specs.Reached.{is_below, is_within, leads_within, LeadInto, IsReachedFrom, by_root, by_reference, AreReached, IsHeapFaultOf}
-use Rattle.stopped_heap.specs.Surveys.{marks_of}
-use Rattle.stopped_heap.specs.declared.fault.SurveyFault.{SurveyFault}
-use Rattle.stopped_heap.specs.declared.fault.SurveyFault.TheVariants.{TooLarge, BadRoot, BadReference, BadWeak, ObjectTooLong, ObjectPastEnd, Overlap, OutOfMemory}
-use Rattle.stopped_heap.proofs.Grown.{had-cases, had-left, had-right, kept-marked, lead-cases, lead-left, lead-marked, lead-right, mark-of, marked-lead, reached-through, set-of}
+use Rattle.rest_marks.specs.Reached.{is_below, is_within, leads_within, LeadInto, IsReachedFrom, by_root, by_reference, AreReached, IsHeapFaultOf}
+use Rattle.rest_marks.specs.Surveys.{marks_of}
+use Rattle.rest_marks.specs.declared.fault.SurveyFault.{SurveyFault}
+use Rattle.rest_marks.specs.declared.fault.SurveyFault.TheVariants.{TooLarge, BadRoot, BadReference, BadWeak, ObjectTooLong, ObjectPastEnd, Overlap, OutOfMemory}
+use Rattle.rest_marks.proofs.Grown.{had-cases, had-left, had-right, kept-marked, lead-cases, lead-left, lead-marked, lead-right, mark-of, marked-lead, reached-through, set-of}
 use Rattle.stopped_heap.proofs.Guardians.{filter-had, had-filter, value-mark, value-more}
-use Rattle.stopped_heap.proofs.Reaching.{reached-inside}
-use Rattle.stopped_heap.proofs.Surveying.{marks-rising}
+use Rattle.rest_marks.proofs.Reaching.{reached-inside}
+use Rattle.rest_marks.proofs.Surveying.{marks-rising}
 
 -- ---- what is kept so far
 

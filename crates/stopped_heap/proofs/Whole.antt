@@ -4,10 +4,10 @@ use Rattle.heap_layout.specs.declared.edition.Edition.{Edition}
 use Rattle.heap_layout.specs.Heap.{Heap, live}
 use Rattle.page_plan.specs.Sliding.{live_words}
 use Rattle.stopped_heap.specs.Collecting.{IsCollected, HasCollected, RefusesCollection}
-use Rattle.stopped_heap.specs.Reached.{AreReached, IsSound}
-use Rattle.stopped_heap.specs.Settled.{settled_word, settled_words}
-use Rattle.stopped_heap.specs.Surveys.{heap_of, with_roots, Surveyed}
-use Rattle.stopped_heap.specs.declared.fault.CollectFault.TheVariants.{NoRoom}
+use Rattle.rest_marks.specs.Reached.{AreReached, IsSound}
+use Rattle.rest_slide.specs.Settled.{settled_word, settled_words}
+use Rattle.rest_marks.specs.Surveys.{heap_of, with_roots, Surveyed}
+use Rattle.rest_marks.specs.declared.fault.CollectFault.TheVariants.{NoRoom}
 
 module _ (survey : Surveyed) (edition : Edition) (words roots : List ℕ) (same_edition : survey.edition ≡ edition) (same_words : survey.words ≡ words)
     (reached : AreReached edition words roots survey.marks) (sound : IsSound (with_roots survey roots)) where

@@ -3,10 +3,10 @@ use Rattle.std.specs.Prelude.{◌≡◌, ℕ, ◌<◌, List, ◌++◌, drop}
 use Rattle.heap_layout.specs.declared.edition.Edition.{Edition}
 use Rattle.heap_layout.specs.Heap.{Heap, live}
 use Rattle.page_plan.specs.Sliding.{live_words}
-use Rattle.stopped_heap.specs.Reached.{AreReached, IsFaultOf, IsSound}
-use Rattle.stopped_heap.specs.Settled.{collected}
-use Rattle.stopped_heap.specs.declared.fault.CollectFault.{CollectFault}
-use Rattle.stopped_heap.specs.declared.fault.CollectFault.TheVariants.{Survey, NoRoom}
+use Rattle.rest_marks.specs.Reached.{AreReached, IsFaultOf, IsSound}
+use Rattle.rest_slide.specs.Settled.{collected}
+use Rattle.rest_marks.specs.declared.fault.CollectFault.{CollectFault}
+use Rattle.rest_marks.specs.declared.fault.CollectFault.TheVariants.{Survey, NoRoom}
 
 -- The heap was collected into a memory that held `before`, and now holds `after`: its `count` live words are there
 -- first, and the others are as they were. `roots` are its roots then.

@@ -8,9 +8,9 @@ use Rattle.heap_layout.specs.Heap.{from_address, header_at, object_at}
 use Rattle.heap_layout.specs.Limits.{most_object_words}
 use Rattle.heap_layout.specs.Values.{is_immediate, or_immediate}
 use Rattle.reachability.specs.Queue.{is_address}
-use Rattle.stopped_heap.specs.Reached.{IsStray, IsWordOf, LeadInto}
-use Rattle.stopped_heap.specs.declared.fault.SurveyFault.{SurveyFault}
-use Rattle.stopped_heap.specs.declared.fault.SurveyFault.TheVariants.{TooLarge, BadRoot, BadReference, BadWeak, ObjectTooLong, ObjectPastEnd, Overlap, OutOfMemory}
+use Rattle.rest_marks.specs.Reached.{IsStray, IsWordOf, LeadInto}
+use Rattle.rest_marks.specs.declared.fault.SurveyFault.{SurveyFault}
+use Rattle.rest_marks.specs.declared.fault.SurveyFault.TheVariants.{TooLarge, BadRoot, BadReference, BadWeak, ObjectTooLong, ObjectPastEnd, Overlap, OutOfMemory}
 
 -- An ephemeron is three words: a holder, a key and a value. A word is held if it is an immediate, or the address of an
 -- object that was marked, or to which a reference of a held object leads, or that is the value of an ephemeron whose

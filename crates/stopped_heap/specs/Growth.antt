@@ -7,12 +7,12 @@ use Rattle.heap_layout.specs.Heap.{from_address, header_at}
 use Rattle.heap_layout.specs.Limits.{most_object_words}
 use Rattle.mark_tables.specs.LiveWords.{is_live}
 use Rattle.stopped_heap.specs.Ephemerons.{AreHeld, IsHeld, IsHeldFaultOf}
-use Rattle.stopped_heap.specs.Given.{heap_now}
-use Rattle.stopped_heap.specs.Growing.{roots_on, IsGrown, IsMoreFaultOf, IsSeenFaultOf}
-use Rattle.stopped_heap.specs.Places.{Found, IsFoundOf}
-use Rattle.stopped_heap.specs.Reached.{AreReached}
-use Rattle.stopped_heap.specs.declared.fault.SurveyFault.{SurveyFault}
-use Rattle.stopped_heap.specs.declared.fault.SurveyFault.TheVariants.{TooLarge, BadRoot, BadReference, BadWeak, ObjectTooLong, ObjectPastEnd, Overlap, OutOfMemory}
+use Rattle.rest_marks.specs.Given.{heap_now}
+use Rattle.rest_marks.specs.Growing.{roots_on, IsGrown, IsMoreFaultOf, IsSeenFaultOf}
+use Rattle.rest_marks.specs.Places.{Found, IsFoundOf}
+use Rattle.rest_marks.specs.Reached.{AreReached}
+use Rattle.rest_marks.specs.declared.fault.SurveyFault.{SurveyFault}
+use Rattle.rest_marks.specs.declared.fault.SurveyFault.TheVariants.{TooLarge, BadRoot, BadReference, BadWeak, ObjectTooLong, ObjectPastEnd, Overlap, OutOfMemory}
 
 -- What was found is found in these words: its objects have the words that were found to be theirs, and lead to one
 -- another. Nothing is said of the other words.

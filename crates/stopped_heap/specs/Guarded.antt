@@ -6,10 +6,10 @@ use Rattle.heap_layout.specs.Heap.{from_address, is_value}
 use Rattle.heap_layout.specs.Limits.{most_words, most_roots}
 use Rattle.reachability.specs.Queue.{has}
 use Rattle.stopped_heap.specs.Ephemerons.{AreHeld, IsHeldFaultOf}
-use Rattle.stopped_heap.specs.Growing.{roots_on}
-use Rattle.stopped_heap.specs.Reached.{AreFew, IsStray}
-use Rattle.stopped_heap.specs.declared.fault.SurveyFault.{SurveyFault}
-use Rattle.stopped_heap.specs.declared.fault.SurveyFault.TheVariants.{TooLarge, BadRoot, BadReference, BadWeak, ObjectTooLong, ObjectPastEnd, Overlap, OutOfMemory}
+use Rattle.rest_marks.specs.Growing.{roots_on}
+use Rattle.rest_marks.specs.Reached.{AreFew, IsStray}
+use Rattle.rest_marks.specs.declared.fault.SurveyFault.{SurveyFault}
+use Rattle.rest_marks.specs.declared.fault.SurveyFault.TheVariants.{TooLarge, BadRoot, BadReference, BadWeak, ObjectTooLong, ObjectPastEnd, Overlap, OutOfMemory}
 
 -- the indices of the words whose addresses are among the roots, rising
 abbrev pub rooted : List ℕ → List ℕ → List ℕ

@@ -1,11 +1,11 @@
 -- Why a survey that keeps no words did not go on.
 use Rattle.std.specs.Prelude.{◌≡◌, ◌≢◌, ◌<◌, List, ℕ, length}
 use Rattle.stopped_heap.specs.Growth.{IsGrowthFaultOf, IsGrowthHeldFaultOf}
-use Rattle.stopped_heap.specs.Places.{Found}
+use Rattle.rest_marks.specs.Places.{Found}
 use Rattle.stopped_heap.specs.declared.growing.NotGrown.{NotGrown}
 use Rattle.stopped_heap.specs.declared.growth.NotGrowth.{NotGrowth}
 use Rattle.stopped_heap.specs.declared.growth.NotGrowth.TheVariants.{WrongLength, Over}
-use Rattle.stopped_heap.specs.declared.fault.SurveyFault.TheVariants.{OutOfMemory}
+use Rattle.rest_marks.specs.declared.fault.SurveyFault.TheVariants.{OutOfMemory}
 
 -- it is over, its tables come back with the room that they had, and memory ran out only if that is for fewer words
 pub record IsOver (found : Found) (words : List ℕ) (refused : NotGrown) : Type 0 where

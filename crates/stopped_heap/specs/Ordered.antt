@@ -3,9 +3,9 @@ use Rattle.std.specs.Prelude.{◌≡◌, ℕ, ◌-◌, ◌^◌, ◌<◌, ◌≤�
 use Rattle.std.specs.List.{flat_map}
 use Rattle.heap_layout.specs.declared.edition.Edition.{Edition}
 use Rattle.heap_layout.specs.Heap.{is_value, object_at}
-use Rattle.stopped_heap.specs.Growing.{roots_on}
+use Rattle.rest_marks.specs.Growing.{roots_on}
 use Rattle.stopped_heap.specs.Guarded.{is_lost}
-use Rattle.stopped_heap.specs.Reached.{AreReached, IsReachedFrom}
+use Rattle.rest_marks.specs.Reached.{AreReached, IsReachedFrom}
 
 -- the references of the objects to which these words lead, but not the objects
 abbrev pub references_of_all : Edition → List ℕ → List ℕ → List ℕ

@@ -1,10 +1,10 @@
 -- A survey that grows by some lists of roots, one after the other, in words that stay the same.
 use Rattle.std.specs.Prelude.{◌≡◌, ℕ, List, [], ◌∷◌, ◌++◌}
 use Rattle.heap_layout.specs.declared.edition.Edition.{Edition}
-use Rattle.stopped_heap.specs.Growing.{roots_on}
+use Rattle.rest_marks.specs.Growing.{roots_on}
 use Rattle.stopped_heap.specs.Growth.{HasGrown}
-use Rattle.stopped_heap.specs.Places.{Found}
-use Rattle.stopped_heap.specs.Reached.{AreReached}
+use Rattle.rest_marks.specs.Places.{Found}
+use Rattle.rest_marks.specs.Reached.{AreReached}
 
 -- a step: the roots that were handed in, and the objects that were kept after it
 pub record Step : Type 0 where

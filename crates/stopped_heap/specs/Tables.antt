@@ -3,17 +3,17 @@ use Rattle.std.specs.Prelude.{◌≡◌, ◌≢◌, ℕ, ◌+◌, ◌*◌, ◌<�
 use Rattle.heap_layout.specs.declared.edition.Edition.{Edition}
 use Rattle.heap_layout.specs.Limits.{most_words, most_roots}
 use Rattle.stopped_heap.specs.Collecting.{RefusesCollection}
-use Rattle.stopped_heap.specs.Marks.{IsMarksFaultOf}
-use Rattle.stopped_heap.specs.Reached.{IsFaultOf}
-use Rattle.stopped_heap.specs.declared.fault.CollectFault.TheVariants as collect
-use Rattle.stopped_heap.specs.declared.fault.SurveyFault.TheVariants as survey
-use Rattle.stopped_heap.specs.declared.fault.LentFault.{LentFault}
-use Rattle.stopped_heap.specs.declared.fault.LentFault.TheVariants as lent
-use Rattle.stopped_heap.specs.declared.fault.MarksFault.TheVariants as refusal
-use Rattle.stopped_heap.specs.declared.fault.MarksLentFault.{MarksLentFault}
-use Rattle.stopped_heap.specs.declared.fault.MarksLentFault.TheVariants as marking
-use Rattle.stopped_heap.specs.declared.fault.CollectLentFault.{CollectLentFault}
-use Rattle.stopped_heap.specs.declared.fault.CollectLentFault.TheVariants as collecting
+use Rattle.rest_marks.specs.Marks.{IsMarksFaultOf}
+use Rattle.rest_marks.specs.Reached.{IsFaultOf}
+use Rattle.rest_marks.specs.declared.fault.CollectFault.TheVariants as collect
+use Rattle.rest_marks.specs.declared.fault.SurveyFault.TheVariants as survey
+use Rattle.rest_marks.specs.declared.fault.LentFault.{LentFault}
+use Rattle.rest_marks.specs.declared.fault.LentFault.TheVariants as lent
+use Rattle.rest_marks.specs.declared.fault.MarksFault.TheVariants as refusal
+use Rattle.rest_marks.specs.declared.fault.MarksLentFault.{MarksLentFault}
+use Rattle.rest_marks.specs.declared.fault.MarksLentFault.TheVariants as marking
+use Rattle.rest_marks.specs.declared.fault.CollectLentFault.{CollectLentFault}
+use Rattle.rest_marks.specs.declared.fault.CollectLentFault.TheVariants as collecting
 
 -- for a survey of how many words there is room
 pub record Reserved : Type 0 where

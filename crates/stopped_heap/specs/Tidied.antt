@@ -3,8 +3,8 @@ use Rattle.std.specs.Prelude.{ℕ, ◌+◌, ◌&&◌, Bool, not, nat_le, nat_lt,
 use Rattle.std.specs.List.{range_with_len}
 use Rattle.heap_layout.specs.Header.{refs_of, weak_of}
 use Rattle.heap_layout.specs.Heap.{header_at}
-use Rattle.stopped_heap.specs.Places.{owner, Found}
-use Rattle.stopped_heap.specs.Reached.{is_within}
+use Rattle.rest_marks.specs.Places.{owner, Found}
+use Rattle.rest_marks.specs.Reached.{is_within}
 
 -- whether word j is a weak word of the object at index m, and wild: neither an immediate nor null nor the address of one
 -- of the words

@@ -2,19 +2,14 @@
 ghost use Rattle.std.specs.Prelude.{◌≡◌, ℕ, ◌+◌, ◌*◌, ◌^◌, ◌<◌, ◌≤◌, ◌⊎◌, true, false, length, slice_index, IfErr, OnOk};
 ghost use Rattle.heap_layout.specs.Bits.{bit};
 ghost use Rattle.heap_layout.specs.Heap.{object_at, IsPlaced};
-ghost use Rattle.stopped_heap.specs.Checks.{AreAsked, AreOthers, IsAskFault, IsAskedFault, IsCheckFault};
-ghost use Rattle.stopped_heap.specs.Looks.{AreLooked, AreLookedAt};
-ghost use Rattle.stopped_heap.specs.Marks.{AllKept};
-ghost use Rattle.stopped_heap.specs.Meeting.{AllLead, AreMet, AreOnce};
-ghost use Rattle.stopped_heap.specs.Reached.{IsWordOf};
+ghost use Rattle.rest_marks.specs.Checks.{AreAsked, AreOthers, IsAskFault, IsAskedFault, IsCheckFault};
+ghost use Rattle.rest_marks.specs.Looks.{AreLooked, AreLookedAt};
+ghost use Rattle.rest_marks.specs.Marks.{AllKept};
+ghost use Rattle.rest_marks.specs.Meeting.{AllLead, AreMet, AreOnce};
+ghost use Rattle.rest_marks.specs.Reached.{IsWordOf};
 
-use crate::bits::{first_unset, inverted, take_run};
-use crate::fault::CheckFault;
+use rest_marks::{CheckFault, check_kept, check_leads, first_unset, inverted, references, shape_of, take_run, weak_words};
 use crate::looks::Looks;
-use crate::marking::{references, weak_words};
-use crate::marks::check_kept;
-use crate::meeting::check_leads;
-use crate::shape::shape_of;
 use heap_layout::Edition;
 use std::alloc::Global;
 

@@ -2,7 +2,7 @@
 ghost use Rattle.std.specs.Prelude.{◌≡◌, ◌<◌, ℕ, List, length, IfOk, IfErr, OnErr};
 ghost use Rattle.stopped_heap.specs.Collecting.{HasCollected, RefusesCollection};
 
-use crate::fault::CollectFault;
+use rest_marks::CollectFault;
 use crate::survey::Survey;
 use heap_layout::Edition;
 use std::alloc::Global;

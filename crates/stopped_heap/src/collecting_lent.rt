@@ -3,14 +3,12 @@ ghost use Rattle.std.specs.Prelude.{◌≡◌, ◌≢◌, ◌*◌, ◌<◌, ◌�
 ghost use Rattle.heap_layout.specs.Limits.{most_words, most_roots};
 ghost use Rattle.stopped_heap.specs.Collecting.{HasCollected, RefusesCollection};
 ghost use Rattle.stopped_heap.specs.Tables.{HaveRoom, RefusesLent};
-ghost use Rattle.stopped_heap.specs.declared.fault.CollectFault.TheVariants as collect;
-ghost use Rattle.stopped_heap.specs.declared.fault.SurveyFault.TheVariants as survey;
+ghost use Rattle.rest_marks.specs.declared.fault.CollectFault.TheVariants as collect;
+ghost use Rattle.rest_marks.specs.declared.fault.SurveyFault.TheVariants as survey;
 
-use crate::fault::{CollectFault, CollectLentFault, SurveyFault};
-use crate::forwarding::settle_all;
+use rest_slide::slide_part;
+use rest_marks::{CollectFault, CollectLentFault, SurveyFault, put_starts, settle_all};
 use crate::lending::fill;
-use crate::sliding::slide_part;
-use crate::starts::put_starts;
 use crate::tables::Tables;
 use heap_layout::Edition;
 

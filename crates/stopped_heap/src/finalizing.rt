@@ -9,19 +9,16 @@
 ghost use Rattle.std.specs.Prelude.{◌≡◌, ◌≢◌, ℕ, ◌+◌, ◌-◌, ◌^◌, ◌<◌, ◌≤◌, List, ◌++◌, map, filter, length, slice_index, take, All, IfErr, IfOk, OnOk};
 ghost use Rattle.heap_layout.specs.Heap.{from_address, object_at, IsValue};
 ghost use Rattle.heap_layout.specs.Limits.{most_words, most_roots};
-ghost use Rattle.stopped_heap.specs.Growing.{roots_on, IsMoreFaultOf};
+ghost use Rattle.rest_marks.specs.Growing.{roots_on, IsMoreFaultOf};
 ghost use Rattle.stopped_heap.specs.Guarded.{is_lost};
-ghost use Rattle.stopped_heap.specs.Meeting.{AllLead};
+ghost use Rattle.rest_marks.specs.Meeting.{AllLead};
 ghost use Rattle.stopped_heap.specs.Ordered.{references_of_all, or_null, AreOrdered, IsAddress, ReachEach};
-ghost use Rattle.stopped_heap.specs.Reached.{AreReached, IsHeapFaultOf, IsReachedFrom};
-ghost use Rattle.stopped_heap.specs.declared.fault.SurveyFault.TheVariants as survey;
+ghost use Rattle.rest_marks.specs.Reached.{AreReached, IsHeapFaultOf, IsReachedFrom};
+ghost use Rattle.rest_marks.specs.declared.fault.SurveyFault.TheVariants as survey;
 
-use crate::fault::SurveyFault;
+use rest_marks::{SurveyFault, check_leads, references, shape_of};
 use crate::growing::{Growing, NotGrown};
 use crate::guarding::{part, push_lost};
-use crate::marking::references;
-use crate::meeting::check_leads;
-use crate::shape::shape_of;
 use heap_layout::{Edition, FROM_SPACE};
 use std::alloc::Global;
 

@@ -4,17 +4,13 @@ ghost use Rattle.std.specs.Prelude.{◌≡◌, ℕ, ◌+◌, ◌/◌, ◌^◌, �
 ghost use Rattle.heap_layout.specs.Heap.{Heap, IsValue};
 ghost use Rattle.heap_layout.specs.Limits.{most_object_words, most_roots, most_words};
 ghost use Rattle.mark_tables.specs.MarkBitmap.{set_bits};
-ghost use Rattle.stopped_heap.specs.Given.{heap_now, AreTaken, HasCollectedAs, HasSlid, HasWeak, IsBitsFaultOf, RefusesByBits};
-ghost use Rattle.stopped_heap.specs.Places.{Found, IsAsFound, IsFoundOf};
-ghost use Rattle.stopped_heap.specs.Reached.{IsReachedFrom};
-ghost use Rattle.stopped_heap.specs.Surveys.{marks_of};
+ghost use Rattle.rest_marks.specs.Given.{heap_now, AreTaken, HasCollectedAs, HasSlid, HasWeak, IsBitsFaultOf, RefusesByBits};
+ghost use Rattle.rest_marks.specs.Places.{Found, IsAsFound, IsFoundOf};
+ghost use Rattle.rest_marks.specs.Reached.{IsReachedFrom};
+ghost use Rattle.rest_marks.specs.Surveys.{marks_of};
 
-use crate::fault::{BitsFault, ByBitsFault};
-use crate::marks::check_kept;
-use crate::offsets::offsets;
+use rest_marks::{BitsFault, ByBitsFault, bit_past, check_kept, odd_word, offsets, starts_of};
 use crate::places::Places;
-use crate::runs::{bit_past, odd_word};
-use crate::starts::starts_of;
 use heap_layout::Edition;
 use std::alloc::Global;
 

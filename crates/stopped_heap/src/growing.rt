@@ -4,20 +4,16 @@
 ghost use Rattle.std.specs.Prelude.{◌≡◌, ℕ, ◌<◌, ◌≤◌, List, [], ◌++◌, length, vec_capacity, All, IfErr, IfOk, OnOk};
 ghost use Rattle.heap_layout.specs.Heap.{is_value, IsValue};
 ghost use Rattle.stopped_heap.specs.Ephemerons.{AreHeld, IsHeldFaultOf};
-ghost use Rattle.stopped_heap.specs.Growing.{roots_on, AreReady, IsGrown, IsGrownIn, IsMoreFaultOf, IsSeenFaultOf};
-ghost use Rattle.stopped_heap.specs.Marks.{AllKept};
-ghost use Rattle.stopped_heap.specs.Reached.{AreReached, IsFaultOf};
-ghost use Rattle.stopped_heap.specs.Surveys.{marks_of};
+ghost use Rattle.rest_marks.specs.Growing.{roots_on, AreReady, IsGrown, IsGrownIn, IsMoreFaultOf, IsSeenFaultOf};
+ghost use Rattle.rest_marks.specs.Marks.{AllKept};
+ghost use Rattle.rest_marks.specs.Reached.{AreReached, IsFaultOf};
+ghost use Rattle.rest_marks.specs.Surveys.{marks_of};
 ghost use Rattle.stopped_heap.specs.Tables.{IsLentFaultOf};
-ghost use Rattle.stopped_heap.specs.declared.fault.SurveyFault.TheVariants as survey;
+ghost use Rattle.rest_marks.specs.declared.fault.SurveyFault.TheVariants as survey;
 
+use rest_marks::{LentFault, SurveyFault, leads_to, mark_in, put_offsets, put_starts};
 use crate::ephemerons::keep_values;
-use crate::fault::{LentFault, SurveyFault};
 use crate::lending::clear;
-use crate::marking::mark_in;
-use crate::marks::leads_to;
-use crate::offsets::put_offsets;
-use crate::starts::put_starts;
 use crate::survey::Survey;
 use crate::tables::{NotSurveyed, Tables};
 use heap_layout::Edition;
@@ -41,8 +37,8 @@ pub struct Growing<'w> {
 
 impl<'w> Model for Growing<'w> {
     ghost use Rattle.std.specs.Prelude.{◌+◌, ◌*◌, ◌≤◌, length, vec_capacity};
-    ghost use Rattle.stopped_heap.specs.Growing.{IsGrown};
-    ghost use Rattle.stopped_heap.specs.Surveys.{surveyed, Surveyed};
+    ghost use Rattle.rest_marks.specs.Growing.{IsGrown};
+    ghost use Rattle.rest_marks.specs.Surveys.{surveyed, Surveyed};
     ghost use Rattle.stopped_heap.specs.Tables.{HaveRoom};
 
     ghost Value = { Surveyed };

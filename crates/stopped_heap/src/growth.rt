@@ -2,17 +2,14 @@
 ghost use Rattle.std.specs.Prelude.{◌≡◌, ℕ, ◌≤◌, List, [], length, All, IfErr, IfOk};
 ghost use Rattle.heap_layout.specs.Heap.{is_value, Heap, IsValue};
 ghost use Rattle.stopped_heap.specs.Growth.{HasGrown, HasHeld, IsFoundIn};
-ghost use Rattle.stopped_heap.specs.Places.{IsFoundOf};
-ghost use Rattle.stopped_heap.specs.Reached.{IsFaultOf};
+ghost use Rattle.rest_marks.specs.Places.{IsFoundOf};
+ghost use Rattle.rest_marks.specs.Reached.{IsFaultOf};
 ghost use Rattle.stopped_heap.specs.Tables.{IsLentFaultOf};
 
+use rest_marks::{SurveyFault, leads_to, put_offsets, put_starts};
 use crate::ephemerons::keep_values;
-use crate::fault::SurveyFault;
 use crate::growing::{Growing, NotGrown, grow_in};
-use crate::marks::leads_to;
-use crate::offsets::put_offsets;
 use crate::places::Places;
-use crate::starts::put_starts;
 use crate::tables::{NotSurveyed, Tables};
 use heap_layout::Edition;
 use std::alloc::Global;
@@ -41,7 +38,7 @@ pub struct Growth {
 impl Model for Growth {
     ghost use Rattle.std.specs.Prelude.{◌+◌, ◌*◌, ◌≤◌, length, vec_capacity};
     ghost use Rattle.stopped_heap.specs.Growth.{AreGrownOf};
-    ghost use Rattle.stopped_heap.specs.Places.{found_in, Found};
+    ghost use Rattle.rest_marks.specs.Places.{found_in, Found};
     ghost use Rattle.stopped_heap.specs.Tables.{HaveRoom};
 
     ghost Value = { Found };

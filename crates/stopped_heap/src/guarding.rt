@@ -3,13 +3,12 @@
 ghost use Rattle.std.specs.Prelude.{◌≡◌, ℕ, ◌+◌, ◌<◌, ◌≤◌, ◌^◌, ◌++◌, filter, length, All, IfErr, IfOk, OnOk};
 ghost use Rattle.heap_layout.specs.Heap.{is_value, IsValue};
 ghost use Rattle.heap_layout.specs.Limits.{most_roots};
-ghost use Rattle.stopped_heap.specs.Growing.{roots_on};
+ghost use Rattle.rest_marks.specs.Growing.{roots_on};
 ghost use Rattle.stopped_heap.specs.Guarded.{is_lost, numbered, AreHeldFrom, AreParted, IsGuardedFaultOf, IsOnFaultOf};
-ghost use Rattle.stopped_heap.specs.declared.fault.SurveyFault.TheVariants as survey;
+ghost use Rattle.rest_marks.specs.declared.fault.SurveyFault.TheVariants as survey;
 
-use crate::fault::SurveyFault;
+use rest_marks::{SurveyFault, check_leads};
 use crate::growing::Growing;
-use crate::meeting::check_leads;
 use crate::survey::Survey;
 use heap_layout::Edition;
 use std::alloc::{AllocError, Global};

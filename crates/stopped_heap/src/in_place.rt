@@ -2,16 +2,15 @@
 ghost use Rattle.std.specs.Prelude.{◌≡◌, ◌≢◌, ◌≤◌, length, vec_capacity, IfOk, IfErr, OnErr};
 ghost use Rattle.heap_layout.specs.Limits.{most_words, most_roots};
 ghost use Rattle.stopped_heap.specs.Collecting.{HasCollected};
-ghost use Rattle.stopped_heap.specs.Reached.{AreReached, IsSound, IsFaultOf};
-ghost use Rattle.stopped_heap.specs.Surveys.{marks_of, AreTables};
+ghost use Rattle.rest_marks.specs.Reached.{AreReached, IsSound, IsFaultOf};
+ghost use Rattle.rest_marks.specs.Surveys.{marks_of, AreTables};
 ghost use Rattle.stopped_heap.specs.Tables.{HaveRoom, IsLentFaultOf};
-ghost use Rattle.stopped_heap.specs.declared.fault.SurveyFault.TheVariants as survey;
+ghost use Rattle.rest_marks.specs.declared.fault.SurveyFault.TheVariants as survey;
 
-use crate::fault::{LentFault, SurveyFault};
-use crate::forwarding::settle_all;
+use rest_slide::slide_down;
+use rest_marks::{LentFault, SurveyFault, settle_all};
 use crate::lending::fill;
 use crate::making::tables_of;
-use crate::sliding_down::slide_down;
 use crate::tables::Tables;
 use heap_layout::Edition;
 use std::alloc::Global;

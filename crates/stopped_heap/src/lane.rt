@@ -3,13 +3,10 @@
 ghost use Rattle.std.specs.Prelude.{◌≡◌, ℕ, ◌-◌, ◌<◌, ◌≤◌, ◌++◌, false, List, [], length, slice_index, take, drop, min, IfErr, IfOk};
 ghost use Rattle.heap_layout.specs.Bits.{bit};
 ghost use Rattle.heap_layout.specs.Limits.{most_words};
-ghost use Rattle.stopped_heap.specs.Lanes.{AreKnownMore, AreLanedIn, IsBeginFault, IsLaneMeetFault, IsLedTo, IsTold};
-ghost use Rattle.stopped_heap.specs.Marks.{AllKept};
+ghost use Rattle.rest_marks.specs.Lanes.{AreKnownMore, AreLanedIn, IsBeginFault, IsLaneMeetFault, IsLedTo, IsTold};
+ghost use Rattle.rest_marks.specs.Marks.{AllKept};
 
-use crate::claims::Claims;
-use crate::fault::{MeetFault, SurveyFault};
-use crate::lane_meeting::meet_known;
-use crate::meeting::Stop;
+use rest_marks::{Claims, MeetFault, Stop, SurveyFault, meet_known};
 use heap_layout::Edition;
 use std::alloc::{AllocError, Global};
 use std::marker::Model;
@@ -34,8 +31,8 @@ pub struct Lane {
 impl Model for Lane {
     ghost use Rattle.std.specs.Prelude.{◌≡◌, ◌*◌, ◌+◌, ◌/◌, ◌≤◌, length};
     ghost use Rattle.heap_layout.specs.Limits.{most_words};
-    ghost use Rattle.stopped_heap.specs.Lanes.{Laned, laned};
-    ghost use Rattle.stopped_heap.specs.Meeting.{AreMet, AreOnce};
+    ghost use Rattle.rest_marks.specs.Lanes.{Laned, laned};
+    ghost use Rattle.rest_marks.specs.Meeting.{AreMet, AreOnce};
 
     ghost Value = { Laned };
 

@@ -1,15 +1,14 @@
 //! Lanes of a marking that give objects which wait to another, take them over, and are joined at the end.
 ghost use Rattle.std.specs.Prelude.{◌≡◌, ◌⊎◌, ℕ, ◌+◌, ◌-◌, ◌*◌, ◌^◌, ◌<◌, ◌≤◌, ◌++◌, true, false, List, length, slice_index, take, drop, min, IfErr, IfOk, OnErr, OnOk};
 ghost use Rattle.heap_layout.specs.Bits.{bit};
-ghost use Rattle.stopped_heap.specs.LaneParts.{joined_met, met_at, with_one, AreBoth, AreDisjoint, IsMissingOf, IsOneOf, IsTakeFault};
-ghost use Rattle.stopped_heap.specs.Lanes.{AreKnownMore, AreLanedIn, IsJoinFault};
-ghost use Rattle.stopped_heap.specs.Looks.{AreLooked};
-ghost use Rattle.stopped_heap.specs.Meeting.{AreMet, AreOnce};
-ghost use Rattle.stopped_heap.specs.declared.fault.JoinFault.TheVariants as join;
+ghost use Rattle.rest_marks.specs.LaneParts.{joined_met, met_at, with_one, AreBoth, AreDisjoint, IsMissingOf, IsOneOf, IsTakeFault};
+ghost use Rattle.rest_marks.specs.Lanes.{AreKnownMore, AreLanedIn, IsJoinFault};
+ghost use Rattle.rest_marks.specs.Looks.{AreLooked};
+ghost use Rattle.rest_marks.specs.Meeting.{AreMet, AreOnce};
+ghost use Rattle.rest_marks.specs.declared.fault.JoinFault.TheVariants as join;
 
-use crate::fault::{JoinFault, MeetFault, Missing};
+use rest_marks::{JoinFault, MeetFault, Missing, clear, first_common, first_missing, united};
 use crate::lane::Lane;
-use crate::lane_bits::{clear, first_common, first_missing, united};
 use crate::looks::Looks;
 use heap_layout::{is_set, set};
 use std::alloc::AllocError;

@@ -1,15 +1,12 @@
 //! Looks for one of several markers at objects one after the other, whose rows were handed in one behind the other.
 ghost use Rattle.std.specs.Prelude.{◌≡◌, ◌⊎◌, ℕ, ◌+◌, ◌*◌, ◌^◌, ◌<◌, ◌≤◌, true, List, length, slice_index, IfErr, IfOk, OnOk};
 ghost use Rattle.heap_layout.specs.Bits.{bit};
-ghost use Rattle.stopped_heap.specs.Lanes.{laned, IsLaneAfterRows, IsLaneRowsFault, AreKnownMore, AreLanedIn};
-ghost use Rattle.stopped_heap.specs.Looks.{rows_of, AreLookedAt, AreRowsAt};
-ghost use Rattle.stopped_heap.specs.Meeting.{AreMet, AreOnce};
+ghost use Rattle.rest_marks.specs.Lanes.{laned, IsLaneAfterRows, IsLaneRowsFault, AreKnownMore, AreLanedIn};
+ghost use Rattle.rest_marks.specs.Looks.{rows_of, AreLookedAt, AreRowsAt};
+ghost use Rattle.rest_marks.specs.Meeting.{AreMet, AreOnce};
 
-use crate::claims::Claims;
-use crate::fault::LookFault;
+use rest_marks::{Claims, LookFault, look_known, row_at};
 use crate::lane::Lane;
-use crate::lane_looking::look_known;
-use crate::looking_rows::row_at;
 use heap_layout::Edition;
 
 // Looks at the objects of the queue from number `first` on, one for each row, and answers the number of the one behind

@@ -8,16 +8,16 @@ ghost use Rattle.reachability.specs.Reachable.{AreReachable};
 ghost use Rattle.stopped_heap.specs.Collecting.{HasCollected, RefusesCollection};
 ghost use Rattle.stopped_heap.specs.Growth.{IsFoundIn};
 ghost use Rattle.stopped_heap.specs.InPlace.{HaveLeftTheSame};
-ghost use Rattle.stopped_heap.specs.Reached.{AreReached, IsReachedFrom, IsSound, IsFaultOf};
+ghost use Rattle.rest_marks.specs.Reached.{AreReached, IsReachedFrom, IsSound, IsFaultOf};
 ghost use Rattle.stopped_heap.specs.SlideParts.{joined_parts};
-ghost use Rattle.stopped_heap.specs.Places.{led_by, words_now, Found, IsFoundOf, IsSlideFault};
-ghost use Rattle.stopped_heap.specs.Settled.{collected, settled_word, settled_words, AreSlid};
+ghost use Rattle.rest_marks.specs.Places.{led_by, words_now, Found, IsFoundOf, IsSlideFault};
+ghost use Rattle.rest_slide.specs.Settled.{collected, settled_word, settled_words, AreSlid};
 ghost use Rattle.stopped_heap.specs.Steps.{growth_roots, found_at_last, kept_at_last, roots_of_all, AreFoundAlike, AreGrowthSteps, AreSteps, GrowthStep, Step};
-ghost use Rattle.stopped_heap.specs.declared.fault.CollectFault.{CollectFault};
-ghost use Rattle.stopped_heap.specs.declared.fault.CollectFault.TheVariants as collection;
-ghost use Rattle.stopped_heap.specs.declared.fault.SlideFault.{SlideFault};
-ghost use Rattle.stopped_heap.specs.declared.fault.SurveyFault.{SurveyFault};
-ghost use Rattle.stopped_heap.specs.declared.fault.SurveyFault.TheVariants as survey;
+ghost use Rattle.rest_marks.specs.declared.fault.CollectFault.{CollectFault};
+ghost use Rattle.rest_marks.specs.declared.fault.CollectFault.TheVariants as collection;
+ghost use Rattle.rest_marks.specs.declared.fault.SlideFault.{SlideFault};
+ghost use Rattle.rest_marks.specs.declared.fault.SurveyFault.{SurveyFault};
+ghost use Rattle.rest_marks.specs.declared.fault.SurveyFault.TheVariants as survey;
 
 /// The words that a collection leaves are the slid words of page_plan, each reference and weak word lowered by 2^32 if
 /// it is no immediate.

@@ -1,17 +1,14 @@
 //! Fills the tables of a survey, in memory that is there.
 ghost use Rattle.std.specs.Prelude.{◌≡◌, ◌≢◌, ◌+◌, ◌*◌, ◌/◌, ◌≤◌, length, replicate, vec_capacity, vec_len, IfErr, OnOk};
 ghost use Rattle.heap_layout.specs.Limits.{most_words, most_roots};
-ghost use Rattle.stopped_heap.specs.Marks.{IsMarksFaultOf};
-ghost use Rattle.stopped_heap.specs.Reached.{AreReached, IsFaultOf, IsSound};
-ghost use Rattle.stopped_heap.specs.Surveys.{marks_of, AreTables};
+ghost use Rattle.rest_marks.specs.Marks.{IsMarksFaultOf};
+ghost use Rattle.rest_marks.specs.Reached.{AreReached, IsFaultOf, IsSound};
+ghost use Rattle.rest_marks.specs.Surveys.{marks_of, AreTables};
 ghost use Rattle.stopped_heap.specs.Tables.{HaveRoom};
-ghost use Rattle.stopped_heap.specs.declared.fault.MarksFault.TheVariants as refusal;
-ghost use Rattle.stopped_heap.specs.declared.fault.SurveyFault.TheVariants as survey;
+ghost use Rattle.rest_marks.specs.declared.fault.MarksFault.TheVariants as refusal;
+ghost use Rattle.rest_marks.specs.declared.fault.SurveyFault.TheVariants as survey;
 
-use crate::fault::{MarksFault, SurveyFault};
-use crate::marking::mark_with;
-use crate::marks::{check_kept, take_marks};
-use crate::offsets::put_offsets;
+use rest_marks::{MarksFault, SurveyFault, check_kept, mark_with, put_offsets, take_marks};
 use heap_layout::Edition;
 
 /// So many blocks, in which no bit is set. There must be room for them.

@@ -42,50 +42,25 @@
 //! - `laws`, `tidied`: what follows of the clauses.
 #![tactic(auto)]
 
-mod bits;
 mod checking;
-mod claims;
 mod collecting;
 mod collecting_lent;
 mod ephemerons;
-mod fault;
 mod finalizing;
-mod finding;
-mod following;
-mod forwarding;
-mod found;
 mod given;
 mod growing;
 mod growth;
 mod guarding;
 mod in_place;
-mod kept;
 mod lane;
-mod lane_bits;
 mod lane_joining;
-mod lane_looking;
-mod lane_meeting;
 mod lane_rows;
 mod laws;
 mod lending;
-mod live_bits;
-mod looking_at;
-mod looking_rows;
 mod looks;
 mod making;
-mod marking;
-mod marks;
-mod meeting;
-mod offsets;
 mod places;
 mod regrowing;
-mod rounds;
-mod runs;
-mod shape;
-mod sliding;
-mod sliding_down;
-mod starts;
-mod staying;
 mod survey;
 mod survey_by_threads;
 mod tables;
@@ -93,31 +68,20 @@ mod tables;
 mod tests;
 mod threads;
 mod tidied;
-mod trying;
 
 pub use collecting::collect;
 pub use collecting_lent::collect_lent;
-pub use fault::{
-    BitsFault, ByBitsFault, CheckFault, CollectFault, CollectLentFault, FinishFault, JoinFault,
-    LentFault, LookFault, MarksFault, MarksLentFault, MeetFault, Missing, SlideFault, SurveyFault,
-};
 pub use finalizing::Ordered;
-pub use finding::next_set;
-pub use following::{Ahead, WIDE};
 pub use given::{collect_by_bits, slid_is_sound};
 pub use growing::{Growing, NotGrown};
 pub use growth::{Growth, NotGrowth};
 pub use guarding::{Guarded, survey_guarded};
 pub use in_place::{collect_in_place, collect_in_place_lent};
 pub use lane::Lane;
-pub use laws::{
-    accepted_is_sound, collected_is_accepted, collected_is_one, collected_is_reached,
-    collected_is_slid, found_has_no_fault, led_is_settled, parts_are_whole, reached_is_marked,
-    reached_is_one, sound_has_no_fault, steps_are_one, words_now_are_settled,
-};
+pub use laws::{accepted_is_sound, collected_is_accepted, collected_is_one, collected_is_reached, collected_is_slid, found_has_no_fault, led_is_settled, parts_are_whole, reached_is_marked, reached_is_one, sound_has_no_fault, steps_are_one, words_now_are_settled};
 pub use looks::{Looks, clean_is_same, same_is_looked};
 pub use places::{LiveBits, Places};
-pub use shape::{Shape, shape_of};
+pub use rest_marks::{Ahead, BitsFault, ByBitsFault, CheckFault, CollectFault, CollectLentFault, FinishFault, JoinFault, LentFault, LookFault, MarksFault, MarksLentFault, MeetFault, Missing, Shape, SlideFault, SurveyFault, WIDE, next_set, shape_of};
 pub use survey::Survey;
 pub use tables::{NotSurveyed, NotTaken, Tables};
 pub use threads::collect_by_threads;

@@ -5,17 +5,14 @@ ghost use Rattle.heap_layout.specs.Bits.{bit};
 ghost use Rattle.heap_layout.specs.declared.edition.Edition.{Edition};
 ghost use Rattle.heap_layout.specs.Heap.{object_at, Heap, IsPlaced, IsValue};
 ghost use Rattle.heap_layout.specs.Limits.{most_roots};
-ghost use Rattle.stopped_heap.specs.Given.{heap_now};
-ghost use Rattle.stopped_heap.specs.LookFaults.{IsFinishFault, IsLookAgainFault, IsLookFault, IsMeetFault, IsRowsFault};
-ghost use Rattle.stopped_heap.specs.Looks.{met_by, met_by_rows, rows_of, Looking, AreLooked, AreRowsAt, AreSame, AreSameBut, IsAt, IsSameAt};
-ghost use Rattle.stopped_heap.specs.Marks.{AllKept};
-ghost use Rattle.stopped_heap.specs.Places.{IsFoundOf};
-ghost use Rattle.stopped_heap.specs.Reached.{IsFaultOf, IsWordOf};
+ghost use Rattle.rest_marks.specs.Given.{heap_now};
+ghost use Rattle.rest_marks.specs.LookFaults.{IsFinishFault, IsLookAgainFault, IsLookFault, IsMeetFault, IsRowsFault};
+ghost use Rattle.rest_marks.specs.Looks.{met_by, met_by_rows, rows_of, Looking, AreLooked, AreRowsAt, AreSame, AreSameBut, IsAt, IsSameAt};
+ghost use Rattle.rest_marks.specs.Marks.{AllKept};
+ghost use Rattle.rest_marks.specs.Places.{IsFoundOf};
+ghost use Rattle.rest_marks.specs.Reached.{IsFaultOf, IsWordOf};
 
-use crate::fault::{FinishFault, LookFault, MeetFault, SurveyFault};
-use crate::looking_at::{look_again_at, look_at};
-use crate::looking_rows::look_each;
-use crate::meeting::{Stop, meet_all};
+use rest_marks::{FinishFault, LookFault, MeetFault, Stop, SurveyFault, look_again_at, look_at, look_each, meet_all};
 use crate::places::Places;
 use heap_layout::{Edition, is_set};
 use std::alloc::Global;
@@ -38,8 +35,8 @@ pub struct Looks {
 impl Model for Looks {
     ghost use Rattle.std.specs.Prelude.{◌≡◌, ◌*◌, ◌+◌, ◌/◌, ◌≤◌, length};
     ghost use Rattle.heap_layout.specs.Limits.{most_words};
-    ghost use Rattle.stopped_heap.specs.Looks.{Looking};
-    ghost use Rattle.stopped_heap.specs.Meeting.{AreMet, AreOnce};
+    ghost use Rattle.rest_marks.specs.Looks.{Looking};
+    ghost use Rattle.rest_marks.specs.Meeting.{AreMet, AreOnce};
 
     ghost Value = { Looking };
 

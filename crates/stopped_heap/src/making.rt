@@ -1,11 +1,9 @@
 //! Makes the tables of a survey.
 ghost use Rattle.std.specs.Prelude.{◌≡◌, ◌+◌, ◌/◌, length, IfOk, IfErr};
-ghost use Rattle.stopped_heap.specs.Reached.{AreReached, IsSound, IsFaultOf};
-ghost use Rattle.stopped_heap.specs.Surveys.{marks_of, AreTables};
+ghost use Rattle.rest_marks.specs.Reached.{AreReached, IsSound, IsFaultOf};
+ghost use Rattle.rest_marks.specs.Surveys.{marks_of, AreTables};
 
-use crate::fault::SurveyFault;
-use crate::marking::mark;
-use crate::offsets::offsets;
+use rest_marks::{SurveyFault, mark, offsets};
 use heap_layout::Edition;
 use std::alloc::Global;
 

@@ -2,15 +2,13 @@
 ghost use Rattle.std.specs.Prelude.{◌≡◌, ℕ, ◌<◌, false, true, cond, drop, length, map, slice_index, take, All, IfErr, OnErr, OnOk};
 ghost use Rattle.heap_layout.specs.Heap.{is_value, IsValue};
 ghost use Rattle.mark_tables.specs.MarkBitmap.{set_bits, AreOffsets};
-ghost use Rattle.stopped_heap.specs.Places.{led_by, words_now, IsAsFound, IsSlideFault};
-ghost use Rattle.stopped_heap.specs.Surveys.{marks_of};
-ghost use Rattle.stopped_heap.specs.declared.fault.SlideFault.TheVariants as slide;
+ghost use Rattle.rest_marks.specs.Places.{led_by, words_now, IsAsFound, IsSlideFault};
+ghost use Rattle.rest_marks.specs.Surveys.{marks_of};
+ghost use Rattle.rest_marks.specs.declared.fault.SlideFault.TheVariants as slide;
 
-use crate::fault::SlideFault;
-use crate::forwarding::settle_all;
-use crate::marks::check_kept;
+use rest_slide::try_slide_part;
+use rest_marks::{SlideFault, check_kept, settle_all};
 use crate::tables::Tables;
-use crate::trying::try_slide_part;
 use heap_layout::Edition;
 use std::marker::Model;
 
@@ -42,8 +40,8 @@ pub struct Places {
 
 impl Model for Places {
     ghost use Rattle.std.specs.Prelude.{◌*◌, ◌≤◌, vec_capacity};
-    ghost use Rattle.stopped_heap.specs.Places.{found_in, AreTablesOf, Found};
-    ghost use Rattle.stopped_heap.specs.Starts.{AreStarts};
+    ghost use Rattle.rest_marks.specs.Places.{found_in, AreTablesOf, Found};
+    ghost use Rattle.rest_marks.specs.Starts.{AreStarts};
     ghost use Rattle.stopped_heap.specs.Tables.{HaveRoom};
 
     ghost Value = { Found };

@@ -1,7 +1,7 @@
 //! A survey that grows again, though it was settled: by threads or by marks first, and by ephemerons then.
 ghost use Rattle.std.specs.Prelude.{◌≡◌, ℕ, ◌*◌, ◌^◌, ◌<◌, ◌≤◌, true, length, vec_capacity, IfErr, IfOk, OnErr, OnOk};
 ghost use Rattle.heap_layout.specs.Bits.{bit};
-ghost use Rattle.stopped_heap.specs.Meeting.{AreMet, AreOnce};
+ghost use Rattle.rest_marks.specs.Meeting.{AreMet, AreOnce};
 
 use crate::growing::Growing;
 use crate::survey::Survey;

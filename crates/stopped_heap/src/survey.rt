@@ -3,22 +3,18 @@ ghost use Rattle.std.specs.Prelude.{◌≡◌, ℕ, ◌+◌, ◌/◌, ◌<◌, �
 ghost use Rattle.std.specs.Option.{option_map};
 ghost use Rattle.heap_layout.specs.Heap.{live, is_value, IsValue};
 ghost use Rattle.page_plan.specs.Sliding.{forward_value, live_words};
-ghost use Rattle.stopped_heap.specs.Reached.{AreReached, IsSound, IsFaultOf};
-ghost use Rattle.stopped_heap.specs.Settled.{lowered, settled_word, settled_words};
-ghost use Rattle.stopped_heap.specs.Surveys.{heap_of, marks_of, with_roots};
-ghost use Rattle.stopped_heap.specs.Marks.{IsMarksFaultOf};
-ghost use Rattle.stopped_heap.specs.Places.{IsFoundOf};
+ghost use Rattle.rest_marks.specs.Reached.{AreReached, IsSound, IsFaultOf};
+ghost use Rattle.rest_slide.specs.Settled.{lowered, settled_word, settled_words};
+ghost use Rattle.rest_marks.specs.Surveys.{heap_of, marks_of, with_roots};
+ghost use Rattle.rest_marks.specs.Marks.{IsMarksFaultOf};
+ghost use Rattle.rest_marks.specs.Places.{IsFoundOf};
 ghost use Rattle.stopped_heap.specs.Tables.{IsLentFaultOf, IsMarksLentFaultOf};
 
-use crate::fault::{LentFault, MarksFault, MarksLentFault, SurveyFault};
-use crate::forwarding::{below, is_kept, settle_all};
+use rest_slide::slide_part;
+use rest_marks::{LentFault, MarksFault, MarksLentFault, SurveyFault, below, check_kept, is_kept, offsets, put_starts, settle_all, starts_of, take_marks};
 use crate::lending::{fill, fill_by_marks};
 use crate::making::{Found, tables_of};
-use crate::marks::{check_kept, take_marks};
-use crate::offsets::offsets;
 use crate::places::Places;
-use crate::sliding::slide_part;
-use crate::starts::{put_starts, starts_of};
 use crate::tables::{NotSurveyed, NotTaken, Tables};
 use heap_layout::{Edition, FROM_SPACE};
 use std::alloc::Global;
@@ -42,8 +38,8 @@ pub struct Survey<'w> {
 
 impl<'w> Model for Survey<'w> {
     ghost use Rattle.std.specs.Prelude.{◌≡◌, ◌+◌, ◌*◌, ◌/◌, ◌≤◌, length, vec_capacity};
-    ghost use Rattle.stopped_heap.specs.Starts.{AreStarts};
-    ghost use Rattle.stopped_heap.specs.Surveys.{surveyed, Surveyed, AreTables};
+    ghost use Rattle.rest_marks.specs.Starts.{AreStarts};
+    ghost use Rattle.rest_marks.specs.Surveys.{surveyed, Surveyed, AreTables};
     ghost use Rattle.stopped_heap.specs.Tables.{HaveRoom};
 
     ghost Value = { Surveyed };

@@ -1,12 +1,9 @@
 //! What the roots reach, and where it slides, found by several threads.
 ghost use Rattle.std.specs.Prelude.{◌≡◌, ◌<◌, IfErr, IfOk};
-ghost use Rattle.stopped_heap.specs.Reached.{AreReached, IsFaultOf, IsSound};
-ghost use Rattle.stopped_heap.specs.Surveys.{with_roots};
+ghost use Rattle.rest_marks.specs.Reached.{AreReached, IsFaultOf, IsSound};
+ghost use Rattle.rest_marks.specs.Surveys.{with_roots};
 
-use crate::fault::SurveyFault;
-use crate::offsets::offsets;
-use crate::rounds::{MAX_WORKERS, mark_by_threads};
-use crate::starts::starts_of;
+use rest_marks::{MAX_WORKERS, SurveyFault, mark_by_threads, offsets, starts_of};
 use crate::survey::Survey;
 use heap_layout::Edition;
 use std::alloc::{AllocError, Global};

@@ -1,7 +1,7 @@
 //! The tables of a survey, made before it.
 ghost use Rattle.std.specs.Prelude.{◌≡◌, IfOk};
 
-use crate::fault::{LentFault, MarksLentFault};
+use rest_marks::{LentFault, MarksLentFault};
 use std::alloc::{AllocError, Global};
 use std::marker::Model;
 

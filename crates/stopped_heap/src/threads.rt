@@ -3,11 +3,10 @@ ghost use Rattle.std.specs.Prelude.{◌≡◌, ◌+◌, ◌<◌, ◌≤◌, ℕ,
 ghost use Rattle.heap_layout.specs.Heap.{live};
 ghost use Rattle.page_plan.specs.Sliding.{live_words};
 ghost use Rattle.stopped_heap.specs.Collecting.{HasCollected, RefusesCollection};
-ghost use Rattle.stopped_heap.specs.Settled.{settled_words};
-ghost use Rattle.stopped_heap.specs.Surveys.{heap_of};
+ghost use Rattle.rest_slide.specs.Settled.{settled_words};
+ghost use Rattle.rest_marks.specs.Surveys.{heap_of};
 
-use crate::fault::CollectFault;
-use crate::rounds::MAX_WORKERS;
+use rest_marks::{CollectFault, MAX_WORKERS};
 use crate::survey::Survey;
 use heap_layout::Edition;
 use std::alloc::Global;

@@ -1,8 +1,8 @@
 //! A law of what slid whole, wherever its weak words led.
 ghost use Rattle.std.specs.Prelude.{◌≡◌, List, ℕ};
 ghost use Rattle.heap_layout.specs.Heap.{Heap};
-ghost use Rattle.stopped_heap.specs.Given.{heap_now, HasSlid};
-ghost use Rattle.stopped_heap.specs.Places.{words_now, Found, IsFoundOf};
+ghost use Rattle.rest_marks.specs.Given.{heap_now, HasSlid};
+ghost use Rattle.rest_marks.specs.Places.{words_now, Found, IsFoundOf};
 ghost use Rattle.stopped_heap.specs.Tidied.{tidied};
 
 /// What slid whole out of any words was sound but for wild weak words, those that led to no word, and that became null.

@@ -3,10 +3,10 @@ use Rattle.std.proofs.Common.{◌≡◌, ℕ, ◌<◌, List, [], ◌∷◌, ◌+
 use Rattle.std.proofs.lemmas.List.{append-nil}
 use Rattle.heap_layout.specs.declared.edition.Edition.{Edition}
 use Rattle.stopped_heap.specs.Collecting.{HasCollected}
-use Rattle.stopped_heap.specs.Reached.{AreReached, IsReachedFrom, by_root, by_reference}
-use Rattle.stopped_heap.specs.Surveys.{marks_of}
-use Rattle.stopped_heap.proofs.Grown.{mark-of, set-of}
-use Rattle.stopped_heap.proofs.Surveying.{marks-rising}
+use Rattle.rest_marks.specs.Reached.{AreReached, IsReachedFrom, by_root, by_reference}
+use Rattle.rest_marks.specs.Surveys.{marks_of}
+use Rattle.rest_marks.proofs.Grown.{mark-of, set-of}
+use Rattle.rest_marks.proofs.Surveying.{marks-rising}
 use Rattle.young_heap.specs.Young.{seeds, words_at, HasCollectedYoung, IsReachedAbove, by_seed, by_reference as by_young}
 
 -- no number is below 0

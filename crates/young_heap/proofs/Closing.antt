@@ -6,9 +6,9 @@ use Rattle.heap_layout.specs.Bits.{bit}
 use Rattle.heap_layout.specs.Header.{header_of, refs_of, weak_of, size_of}
 use Rattle.heap_layout.specs.Heap.{Heap, header_at}
 use Rattle.stopped_heap.specs.Collecting.{IsCollected}
-use Rattle.stopped_heap.specs.Settled.{collected, places}
-use Rattle.stopped_heap.specs.Surveys.{marks_of}
-use Rattle.stopped_heap.proofs.Settling.{settled-all}
+use Rattle.rest_slide.specs.Settled.{collected, places}
+use Rattle.rest_marks.specs.Surveys.{marks_of}
+use Rattle.rest_slide.proofs.Settling.{settled-all}
 use Rattle.young_heap.specs.Rows.{IsInRow}
 use Rattle.young_heap.specs.Young.{is_below_led, AreKeptBelow, AreOld, AreRemembered}
 use Rattle.young_heap.proofs.Next.{all-old, none-remembered}

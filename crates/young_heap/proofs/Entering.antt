@@ -11,10 +11,10 @@ use Rattle.heap_layout.specs.Heap.{header_at, live}
 use Rattle.mark_tables.specs.MarkBitmap.{set_bits}
 use Rattle.page_plan.specs.Sliding.{size}
 use Rattle.page_plan.proofs.Objects.{live_words-next}
-use Rattle.stopped_heap.specs.Looking.{led_to, kept_by}
-use Rattle.stopped_heap.specs.Surveys.{marks_of, told, AreTables}
-use Rattle.stopped_heap.proofs.Heads.{all-words, head-number}
-use Rattle.stopped_heap.proofs.SlidingDown.{IsSlidDown, IsDown, down-first, next-down, down-next}
+use Rattle.rest_marks.specs.Looking.{led_to, kept_by}
+use Rattle.rest_marks.specs.Surveys.{marks_of, told, AreTables}
+use Rattle.rest_marks.proofs.Heads.{all-words, head-number}
+use Rattle.rest_slide.proofs.SlidingDown.{IsSlidDown, IsDown, down-first, next-down, down-next}
 use Rattle.young_heap.specs.Young.{AreOld}
 
 -- one list up to index m, and another one from there on

@@ -8,7 +8,7 @@ use Rattle.heap_layout.specs.declared.edition.Edition.{Edition}
 use Rattle.heap_layout.specs.Heap.{from_address}
 use Rattle.reachability.specs.Queue.{has, is_address, after_word}
 use Rattle.reachability.proofs.Queues.{IsMet, IsQueue, queue-none, queue-all, kept, places, met, place-of, has-at}
-use Rattle.stopped_heap.proofs.Reaching.{references_of}
+use Rattle.rest_marks.proofs.Reaching.{references_of}
 use Rattle.young_heap.specs.Young.{is_above, LeadAbove, IsReachedAbove, by_seed, by_reference}
 
 -- an index above, of a word

@@ -13,11 +13,11 @@ use Rattle.mark_tables.specs.MarkBitmap.{AreOffsets}
 use Rattle.reachability.specs.Queue.{has, is_address}
 use Rattle.reachability.proofs.Queues.{has-at, place-of}
 use Rattle.reachability.proofs.Rising.{contains-had}
-use Rattle.stopped_heap.specs.Marks.{AllKept, IsKept}
-use Rattle.stopped_heap.specs.Meeting.{AreApart}
-use Rattle.stopped_heap.specs.Reached.{is_below, leads_within, is_within, IsWordOf, IsSound}
-use Rattle.stopped_heap.specs.Surveys.{marks_of, AreTables}
-use Rattle.stopped_heap.proofs.Lent as lent
+use Rattle.rest_marks.specs.Marks.{AllKept, IsKept}
+use Rattle.rest_marks.specs.Meeting.{AreApart}
+use Rattle.rest_marks.specs.Reached.{is_below, leads_within, is_within, IsWordOf, IsSound}
+use Rattle.rest_marks.specs.Surveys.{marks_of, AreTables}
+use Rattle.rest_marks.proofs.Lent as lent
 use Rattle.young_heap.specs.Young.{is_led, is_below_led, may_lead, seeds, words_at, AllLed, AreKeptBelow, AreOld, AreRemembered, IsDoneAbove, IsReachedAbove, LeadAbove, by_seed, by_reference}
 
 -- What marking found above the old objects.

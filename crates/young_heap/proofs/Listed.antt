@@ -9,7 +9,7 @@ use Rattle.heap_layout.specs.Header.{refs_of, weak_of}
 use Rattle.heap_layout.specs.Heap.{header_at}
 use Rattle.reachability.specs.Queue.{has}
 use Rattle.reachability.proofs.Queues.{place-of}
-use Rattle.stopped_heap.specs.declared.fault.SurveyFault.TheVariants as survey
+use Rattle.rest_marks.specs.declared.fault.SurveyFault.TheVariants as survey
 use Rattle.young_heap.specs.Cards.{IsOwner}
 use Rattle.young_heap.specs.Listing.{IsField, IsListedAmiss}
 use Rattle.young_heap.specs.Tables.{AreFitting, IsFaultBy, IsListFault, RefusesRoom, RefusesYoungBy, Watermarked}

@@ -17,14 +17,14 @@ use Rattle.page_plan.proofs.NewAddresses.{forward-none}
 use Rattle.page_plan.proofs.Objects.{live_words-next}
 use Rattle.page_plan.proofs.Ranks.{covered}
 use Rattle.reachability.specs.Queue.{is_address}
-use Rattle.stopped_heap.specs.Reached.{IsSound}
-use Rattle.stopped_heap.specs.Settled.{lowered, settled_word, places, collected}
-use Rattle.stopped_heap.specs.Surveys.{marks_of}
-use Rattle.stopped_heap.proofs.Below.{live_words-part}
+use Rattle.rest_marks.specs.Reached.{IsSound}
+use Rattle.rest_slide.specs.Settled.{lowered, settled_word, places, collected}
+use Rattle.rest_marks.specs.Surveys.{marks_of}
+use Rattle.rest_marks.proofs.BitsBelow.{live_words-part}
 use Rattle.stopped_heap.proofs.Collected.{many, place-at, header-there, placed-there, word-there, collected-accepted}
-use Rattle.stopped_heap.proofs.Heads.{any-at, head-number, heads-lead, mark-set, marks-apart}
+use Rattle.rest_marks.proofs.Heads.{any-at, head-number, heads-lead, mark-set, marks-apart}
 use Rattle.stopped_heap.proofs.Rows.{closed-sound}
-use Rattle.stopped_heap.proofs.Settling.{settled-all, lowered-plain, settled-immediate, settled-plain, settled-null, settled-lost}
+use Rattle.rest_slide.proofs.Settling.{settled-all, lowered-plain, settled-immediate, settled-plain, settled-null, settled-lost}
 use Rattle.young_heap.specs.Young.{is_below_led, AreOld, AreRemembered}
 
 module _ (heap : Heap) (is : IsSound heap) (starts : List ℕ) (same : marks_of starts ≡ places heap) where

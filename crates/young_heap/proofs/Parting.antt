@@ -11,13 +11,13 @@ use Rattle.mark_tables.specs.LiveWords.{live_below}
 use Rattle.mark_tables.proofs.NewPlaces.{below-all}
 use Rattle.page_plan.specs.Sliding.{size, live_words}
 use Rattle.page_plan.proofs.Objects.{live_words-next, live_words-all}
-use Rattle.stopped_heap.specs.Reached.{IsSound, IsWordOf}
-use Rattle.stopped_heap.specs.Settled.{places}
-use Rattle.stopped_heap.specs.Surveys.{marks_of, AreTables}
+use Rattle.rest_marks.specs.Reached.{IsSound, IsWordOf}
+use Rattle.rest_slide.specs.Settled.{places}
+use Rattle.rest_marks.specs.Surveys.{marks_of, AreTables}
 use Rattle.stopped_heap.proofs.Collected.{place-at}
-use Rattle.stopped_heap.proofs.Ended.{live-few, live-rises}
-use Rattle.stopped_heap.proofs.Heads.{head-below, mark-set}
-use Rattle.stopped_heap.proofs.Placing.{places-rise}
+use Rattle.rest_slide.proofs.Ended.{live-few, live-rises}
+use Rattle.rest_marks.proofs.Heads.{head-below, mark-set}
+use Rattle.rest_slide.proofs.Placing.{places-rise}
 use Rattle.young_heap.specs.Aging.{AreParted}
 use Rattle.young_heap.specs.Young.{AreOld}
 use Rattle.young_heap.proofs.Next.{number, start-set}

@@ -14,13 +14,13 @@ use Rattle.reachability.specs.Queue.{has}
 use Rattle.reachability.proofs.Queues.{place-of, has-at}
 use Rattle.reachability.proofs.Rising.{has-contained, rises, rises-same}
 use Rattle.reachability.proofs.Indices.{index-there}
-use Rattle.stopped_heap.specs.Reached.{IsSound}
-use Rattle.stopped_heap.specs.Settled.{places, collected}
-use Rattle.stopped_heap.specs.Surveys.{marks_of}
-use Rattle.stopped_heap.proofs.Bounding.{bit-inside}
+use Rattle.rest_marks.specs.Reached.{IsSound}
+use Rattle.rest_slide.specs.Settled.{places, collected}
+use Rattle.rest_marks.specs.Surveys.{marks_of}
+use Rattle.rest_marks.proofs.Bounding.{bit-inside}
 use Rattle.stopped_heap.proofs.Collected.{many, place-at, header-there}
-use Rattle.stopped_heap.proofs.Heads.{head-number, mark-set, marks-above, marks-apart}
-use Rattle.stopped_heap.proofs.Surveying.{marks-rising}
+use Rattle.rest_marks.proofs.Heads.{head-number, mark-set, marks-above, marks-apart}
+use Rattle.rest_marks.proofs.Surveying.{marks-rising}
 use Rattle.young_heap.specs.Rows.{IsInRow, here, behind}
 use Rattle.young_heap.specs.Young.{AreKeptBelow, AreOld}
 use Rattle.young_heap.proofs.Gathering.{start-behind}

@@ -7,9 +7,9 @@ use Rattle.heap_layout.specs.declared.edition.Edition.{Edition}
 use Rattle.heap_layout.specs.Bits.{bit}
 use Rattle.heap_layout.specs.Header.{refs_of, weak_of}
 use Rattle.heap_layout.specs.Heap.{header_at, object_at}
-use Rattle.stopped_heap.specs.Reached.{is_within, IsWordOf}
-use Rattle.stopped_heap.specs.declared.fault.SurveyFault.{SurveyFault}
-use Rattle.stopped_heap.specs.declared.fault.SurveyFault.TheVariants.{TooLarge, BadRoot, BadReference, BadWeak, ObjectTooLong, ObjectPastEnd, Overlap, OutOfMemory}
+use Rattle.rest_marks.specs.Reached.{is_within, IsWordOf}
+use Rattle.rest_marks.specs.declared.fault.SurveyFault.{SurveyFault}
+use Rattle.rest_marks.specs.declared.fault.SurveyFault.TheVariants.{TooLarge, BadRoot, BadReference, BadWeak, ObjectTooLong, ObjectPastEnd, Overlap, OutOfMemory}
 use Rattle.young_heap.specs.Refusals.{IsMet, IsYoungFaultOf}
 use Rattle.young_heap.specs.Young.{is_led, seeds}
 use Rattle.young_heap.proofs.Following.{IsFollowed, reached-at}

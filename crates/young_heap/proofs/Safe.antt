@@ -15,8 +15,8 @@ use Rattle.mark_tables.proofs.NewPlaces.{below-all}
 use Rattle.mark_tables.proofs.Passing.{passing-all, passing-below, passing-few, passing-gap}
 use Rattle.reachability.specs.Queue.{has, is_address}
 use Rattle.reachability.proofs.Queues.{place-of}
-use Rattle.stopped_heap.specs.Reached.{IsWordOf}
-use Rattle.stopped_heap.proofs.Counts.{passing-more}
+use Rattle.rest_marks.specs.Reached.{IsWordOf}
+use Rattle.rest_marks.proofs.Counts.{passing-more}
 use Rattle.young_heap.specs.Young.{is_led, may_lead, AreFieldsBelow, AreYoungTables, IsDoneAbove}
 use Rattle.young_heap.proofs.Staying.{ones-below}
 

@@ -8,10 +8,10 @@ use Rattle.heap_layout.specs.Heap.{header_at, object_at, IsPlaced}
 use Rattle.mark_tables.proofs.Runs.{IsRunSet}
 use Rattle.reachability.specs.Queue.{after_word}
 use Rattle.reachability.proofs.Queues.{places, place-of, has-at}
-use Rattle.stopped_heap.specs.Meeting.{AllLead}
-use Rattle.stopped_heap.specs.Reached.{IsWordOf}
-use Rattle.stopped_heap.proofs.Reaching.{references_of}
-use Rattle.stopped_heap.proofs.Spread.{AreDisjoint}
+use Rattle.rest_marks.specs.Meeting.{AllLead}
+use Rattle.rest_marks.specs.Reached.{IsWordOf}
+use Rattle.rest_marks.proofs.Reaching.{references_of}
+use Rattle.rest_marks.proofs.Spread.{AreDisjoint}
 use Rattle.young_heap.specs.Young.{is_above, AllLed, AreMetAbove, IsDoneAbove}
 
 module _ (edition : Edition) (starts : List ℕ) (old : ℕ) (words : List ℕ) where

@@ -13,11 +13,11 @@ use Rattle.mark_tables.specs.LiveWords.{live_below}
 use Rattle.mark_tables.proofs.Passing.{passing-all, passing-below}
 use Rattle.reachability.specs.Queue.{has, is_address}
 use Rattle.reachability.proofs.Queues.{has-at, place-of}
-use Rattle.stopped_heap.specs.Looking.{led_to, kept_by}
-use Rattle.stopped_heap.specs.Surveys.{AreTables}
-use Rattle.stopped_heap.proofs.Bounding.{bit-inside}
-use Rattle.stopped_heap.proofs.Filling.{live-value}
-use Rattle.stopped_heap.proofs.Settling.{target-known}
+use Rattle.rest_marks.specs.Looking.{led_to, kept_by}
+use Rattle.rest_marks.specs.Surveys.{AreTables}
+use Rattle.rest_marks.proofs.Bounding.{bit-inside}
+use Rattle.rest_slide.proofs.Filling.{live-value}
+use Rattle.rest_slide.proofs.Settling.{target-known}
 use Rattle.young_heap.specs.Young.{is_below_led, AreFieldsBelow, AreOld, AreRemembered}
 use Rattle.young_heap.proofs.Entering.{AreOldSettled}
 

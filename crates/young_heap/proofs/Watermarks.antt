@@ -9,9 +9,9 @@ use Rattle.heap_layout.specs.Bits.{bit}
 use Rattle.heap_layout.specs.Header.{refs_of}
 use Rattle.heap_layout.specs.Heap.{header_at}
 use Rattle.reachability.specs.Queue.{has}
-use Rattle.stopped_heap.specs.Reached.{is_within, IsFaultOf, IsReachedFrom}
-use Rattle.stopped_heap.specs.declared.fault.SurveyFault.{SurveyFault}
-use Rattle.stopped_heap.specs.declared.fault.SurveyFault.TheVariants.{TooLarge, BadRoot, BadReference, BadWeak, ObjectTooLong, ObjectPastEnd, Overlap, OutOfMemory}
+use Rattle.rest_marks.specs.Reached.{is_within, IsFaultOf, IsReachedFrom}
+use Rattle.rest_marks.specs.declared.fault.SurveyFault.{SurveyFault}
+use Rattle.rest_marks.specs.declared.fault.SurveyFault.TheVariants.{TooLarge, BadRoot, BadReference, BadWeak, ObjectTooLong, ObjectPastEnd, Overlap, OutOfMemory}
 use Rattle.young_heap.specs.Cards.{is_dirty, AreCleanCards}
 use Rattle.young_heap.specs.OldFaults.{IsOldFaultOf}
 use Rattle.young_heap.specs.Refusals.{IsMet, IsYoungFaultOf}

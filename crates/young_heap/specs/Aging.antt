@@ -4,9 +4,9 @@ use Rattle.heap_layout.specs.declared.edition.Edition.{Edition}
 use Rattle.heap_layout.specs.Header.{size_of}
 use Rattle.heap_layout.specs.Heap.{Heap, header_at}
 use Rattle.stopped_heap.specs.Collecting.{IsCollected}
-use Rattle.stopped_heap.specs.Settled.{places}
-use Rattle.stopped_heap.specs.Surveys.{marks_of}
-use Rattle.stopped_heap.specs.declared.fault.SurveyFault.TheVariants as survey
+use Rattle.rest_slide.specs.Settled.{places}
+use Rattle.rest_marks.specs.Surveys.{marks_of}
+use Rattle.rest_marks.specs.declared.fault.SurveyFault.TheVariants as survey
 use Rattle.young_heap.specs.Cards.{is_dirty, AreGathered}
 use Rattle.young_heap.specs.Tables.{AreFitting, AreLacking, AreTooMany, IsFaultBy, Watermarked}
 use Rattle.young_heap.specs.Young.{AreKeptYoung}

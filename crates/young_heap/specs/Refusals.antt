@@ -5,9 +5,9 @@ use Rattle.heap_layout.specs.Header.{refs_of, weak_of, size_of}
 use Rattle.heap_layout.specs.Heap.{header_at}
 use Rattle.heap_layout.specs.Limits.{most_object_words}
 use Rattle.reachability.specs.Queue.{has}
-use Rattle.stopped_heap.specs.Reached.{IsStray, IsWordOf}
-use Rattle.stopped_heap.specs.declared.fault.SurveyFault.{SurveyFault}
-use Rattle.stopped_heap.specs.declared.fault.SurveyFault.TheVariants.{TooLarge, BadRoot, BadReference, BadWeak, ObjectTooLong, ObjectPastEnd, Overlap, OutOfMemory}
+use Rattle.rest_marks.specs.Reached.{IsStray, IsWordOf}
+use Rattle.rest_marks.specs.declared.fault.SurveyFault.{SurveyFault}
+use Rattle.rest_marks.specs.declared.fault.SurveyFault.TheVariants.{TooLarge, BadRoot, BadReference, BadWeak, ObjectTooLong, ObjectPastEnd, Overlap, OutOfMemory}
 use Rattle.young_heap.specs.Young.{is_led, seeds, IsReachedAbove}
 
 -- a root, a field or a reference is astray: it is neither an immediate nor null, and leads neither to a word above nor

@@ -4,9 +4,9 @@ use Rattle.heap_layout.specs.declared.edition.Edition.{Edition}
 use Rattle.heap_layout.specs.Bits.{bit}
 use Rattle.heap_layout.specs.Limits.{most_words, most_roots}
 use Rattle.reachability.specs.Queue.{has}
-use Rattle.stopped_heap.specs.Reached.{IsFaultOf}
-use Rattle.stopped_heap.specs.declared.fault.SurveyFault.{SurveyFault}
-use Rattle.stopped_heap.specs.declared.fault.SurveyFault.TheVariants as survey
+use Rattle.rest_marks.specs.Reached.{IsFaultOf}
+use Rattle.rest_marks.specs.declared.fault.SurveyFault.{SurveyFault}
+use Rattle.rest_marks.specs.declared.fault.SurveyFault.TheVariants as survey
 use Rattle.young_heap.specs.Cards.{is_dirty, AreFound, AreGathered, AreGatheredWeak}
 use Rattle.young_heap.specs.Listing.{AreFields, IsListedAmiss}
 use Rattle.young_heap.specs.Refusals.{IsYoungFaultOf}

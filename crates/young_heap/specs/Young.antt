@@ -9,9 +9,9 @@ use Rattle.heap_layout.specs.Values.{is_immediate, or_immediate}
 use Rattle.mark_tables.specs.MarkBitmap.{AreOffsets}
 use Rattle.reachability.specs.Queue.{has, is_address}
 use Rattle.stopped_heap.specs.Collecting.{IsCollected}
-use Rattle.stopped_heap.specs.Meeting.{AllLead}
-use Rattle.stopped_heap.specs.Reached.{IsWordOf}
-use Rattle.stopped_heap.specs.Surveys.{marks_of, AreTables}
+use Rattle.rest_marks.specs.Meeting.{AllLead}
+use Rattle.rest_marks.specs.Reached.{IsWordOf}
+use Rattle.rest_marks.specs.Surveys.{marks_of, AreTables}
 
 -- whether i is the index of one of `count` words, and not below `old`
 abbrev pub is_above : ℕ → ℕ → ℕ → Bool

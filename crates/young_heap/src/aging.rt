@@ -5,7 +5,7 @@ ghost use Rattle.heap_layout.specs.Limits.{most_words, most_roots};
 ghost use Rattle.mark_tables.specs.LiveWords.{live_below};
 ghost use Rattle.mark_tables.specs.MarkBitmap.{set_bits, AreOffsets};
 ghost use Rattle.reachability.specs.Queue.{has};
-ghost use Rattle.stopped_heap.specs.declared.fault.SurveyFault.TheVariants as survey;
+ghost use Rattle.rest_marks.specs.declared.fault.SurveyFault.TheVariants as survey;
 ghost use Rattle.young_heap.specs.Aging.{IsAgedBy, IsPartedBy};
 ghost use Rattle.young_heap.specs.Cards.{is_dirty, AreCleanCards};
 ghost use Rattle.young_heap.specs.Dirty.{AreMade};

@@ -4,7 +4,7 @@ ghost use Rattle.heap_layout.specs.Bits.{bit};
 ghost use Rattle.heap_layout.specs.Values.{is_immediate};
 ghost use Rattle.mark_tables.specs.MarkBitmap.{set_bits, AreOffsets};
 ghost use Rattle.mark_tables.specs.LiveWords.{live_below};
-ghost use Rattle.stopped_heap.specs.Looking.{led_to, kept_by};
+ghost use Rattle.rest_marks.specs.Looking.{led_to, kept_by};
 ghost use Rattle.reachability.specs.Queue.{is_address};
 
 use heap_layout::{Edition, FROM_SPACE, is_set};

@@ -4,7 +4,7 @@ ghost use Rattle.std.specs.List.Sorted.{IsNonDecreasing};
 ghost use Rattle.heap_layout.specs.Bits.{bit};
 ghost use Rattle.heap_layout.specs.Limits.{most_words, most_roots};
 ghost use Rattle.reachability.specs.Queue.{has};
-ghost use Rattle.stopped_heap.specs.declared.fault.SurveyFault.TheVariants as survey;
+ghost use Rattle.rest_marks.specs.declared.fault.SurveyFault.TheVariants as survey;
 ghost use Rattle.young_heap.specs.Cards.{AreFound, AreGathered, AreGatheredWeak, AreListed};
 ghost use Rattle.young_heap.specs.Listing.{AreFields, IsField, IsMisfitOf, IsMisfitShort};
 ghost use Rattle.young_heap.specs.Tables.{IsCollectedBy, IsListFault};

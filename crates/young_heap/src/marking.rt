@@ -4,8 +4,8 @@ ghost use Rattle.heap_layout.specs.Bits.{bit};
 ghost use Rattle.heap_layout.specs.Header.{refs_of, weak_of, size_of};
 ghost use Rattle.heap_layout.specs.Heap.{header_at, object_at, IsPlaced};
 ghost use Rattle.heap_layout.specs.Limits.{most_words, most_roots};
-ghost use Rattle.stopped_heap.specs.Reached.{IsWordOf};
-ghost use Rattle.stopped_heap.specs.declared.fault.SurveyFault.TheVariants as survey;
+ghost use Rattle.rest_marks.specs.Reached.{IsWordOf};
+ghost use Rattle.rest_marks.specs.declared.fault.SurveyFault.TheVariants as survey;
 ghost use Rattle.young_heap.specs.Refusals.{IsYoungFaultOf};
 ghost use Rattle.young_heap.specs.Young.{seeds, words_at, AllLed, AreKeptBelow, IsDoneAbove, IsReachedAbove};
 

@@ -1,8 +1,8 @@
 //! The queue of the objects above the old ones that were met.
 ghost use Rattle.std.specs.Prelude.{◌≡◌, ℕ, ◌*◌, ◌^◌, ◌<◌, ◌≤◌, false, true, All, fold, length, slice_index, vec_capacity, IfErr, OnOk};
 ghost use Rattle.reachability.specs.Queue.{after_word, has};
-ghost use Rattle.stopped_heap.specs.Meeting.{AllLead, AreOnce};
-ghost use Rattle.stopped_heap.specs.Reached.{is_within};
+ghost use Rattle.rest_marks.specs.Meeting.{AllLead, AreOnce};
+ghost use Rattle.rest_marks.specs.Reached.{is_within};
 ghost use Rattle.young_heap.specs.Young.{is_above, is_led, words_at, AllLed, AreMetAbove, AreKeptBelow};
 ghost use Rattle.young_heap.specs.Stops.{IsShort, IsStopAt, IsStopIn, IsStopOf};
 

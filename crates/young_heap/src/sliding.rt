@@ -6,9 +6,9 @@ ghost use Rattle.heap_layout.specs.Values.{is_immediate};
 ghost use Rattle.mark_tables.specs.MarkBitmap.{set_bits, AreOffsets};
 ghost use Rattle.page_plan.specs.Sliding.{live_words};
 ghost use Rattle.reachability.specs.Queue.{has};
-ghost use Rattle.stopped_heap.specs.Looking.{led_to, kept_by};
-ghost use Rattle.stopped_heap.specs.Settled.{settled_words};
-ghost use Rattle.stopped_heap.specs.Surveys.{told, AreTables};
+ghost use Rattle.rest_marks.specs.Looking.{led_to, kept_by};
+ghost use Rattle.rest_slide.specs.Settled.{settled_words};
+ghost use Rattle.rest_marks.specs.Surveys.{told, AreTables};
 ghost use Rattle.young_heap.specs.Young.{AreFieldsBelow, AreOld, AreRemembered, AreYoungTables};
 
 use crate::finding::next_set;

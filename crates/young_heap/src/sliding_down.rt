@@ -3,7 +3,7 @@
 ghost use Rattle.std.specs.Prelude.{◌≡◌, ℕ, ◌+◌, ◌-◌, ◌*◌, ◌<◌, ◌^◌, ◌≤◌, false, length, slice_index};
 ghost use Rattle.heap_layout.specs.Values.{is_immediate};
 ghost use Rattle.mark_tables.specs.MarkBitmap.{set_bits, AreOffsets};
-ghost use Rattle.stopped_heap.specs.Looking.{led_to, kept_by};
+ghost use Rattle.rest_marks.specs.Looking.{led_to, kept_by};
 
 use crate::forwarding::{settled_reference, settled_weak};
 use crate::shape::Shape;

@@ -3,7 +3,7 @@ ghost use Rattle.std.specs.Prelude.{◌≡◌, ◌≢◌, ◌⊎◌, ℕ, ◌+�
 ghost use Rattle.heap_layout.specs.Bits.{bit};
 ghost use Rattle.heap_layout.specs.Limits.{most_words, most_roots};
 ghost use Rattle.reachability.specs.Queue.{has};
-ghost use Rattle.stopped_heap.specs.declared.fault.SurveyFault.TheVariants as survey;
+ghost use Rattle.rest_marks.specs.declared.fault.SurveyFault.TheVariants as survey;
 ghost use Rattle.young_heap.specs.Cards.{is_dirty, AreCleanCards};
 ghost use Rattle.young_heap.specs.Refusals.{IsYoungFaultOf};
 ghost use Rattle.young_heap.specs.Tables.{IsFaultBy, IsYoungCollected};

@@ -1,6 +1,6 @@
 use Rattle.std.proofs.Common.{length, List, ℕ, subst, arith}
 use Rattle.stopped_heap.specs.Collecting.{RefusesCollection}
-use Rattle.stopped_heap.specs.declared.fault.CollectFault.{CollectFault}
+use Rattle.rest_marks.specs.declared.fault.CollectFault.{CollectFault}
 use Rattle.commands.proofs.Collected.{live-fit}
 use Rattle.commands.proofs.collect.uncollected.Goals as goal
 

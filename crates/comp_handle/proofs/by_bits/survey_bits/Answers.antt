@@ -1,5 +1,5 @@
 use Rattle.std.proofs.Common.{inr}
-use Rattle.stopped_heap.specs.declared.fault.BitsFault.TheVariants as given
+use Rattle.rest_marks.specs.declared.fault.BitsFault.TheVariants as given
 use Rattle.comp_handle.proofs.by_bits.survey_bits.Goals as goal
 
 pub returns-else-keep_found : goal.returns-else-keep_found

@@ -1,5 +1,5 @@
 use Rattle.std.proofs.Common.{inr, refl, ◌∙◌}
-use Rattle.stopped_heap.specs.declared.fault.SurveyFault.TheVariants as survey
+use Rattle.rest_marks.specs.declared.fault.SurveyFault.TheVariants as survey
 use Rattle.comp_handle.proofs.helping.begin.Goals as goal
 
 pub returns-else-keep : goal.returns-else-keep

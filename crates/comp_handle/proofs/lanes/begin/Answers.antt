@@ -1,6 +1,6 @@
 use Rattle.std.proofs.Common.{rules, ◌≤◌, inl, inr, ◌∙◌}
 use Rattle.heap_layout.specs.Limits.{most_object_words, most_words}
-use Rattle.stopped_heap.specs.declared.fault.SurveyFault.TheVariants as survey
+use Rattle.rest_marks.specs.declared.fault.SurveyFault.TheVariants as survey
 use Rattle.comp_handle.proofs.lanes.begin.Goals as goal
 
 pub returns-else-keep : goal.returns-else-keep

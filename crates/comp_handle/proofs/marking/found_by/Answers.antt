@@ -1,5 +1,5 @@
 use Rattle.std.proofs.Common.{subst, sym}
-use Rattle.stopped_heap.specs.Places.{Found}
+use Rattle.rest_marks.specs.Places.{Found}
 use Rattle.comp_handle.specs.Knowing.{knows}
 use Rattle.comp_handle.specs.Marking.{IsFoundBy}
 use Rattle.comp_handle.proofs.marking.found_by.Goals as goal

@@ -1,5 +1,5 @@
 use Rattle.std.proofs.Common.{inr}
-use Rattle.stopped_heap.specs.declared.fault.MarksFault.TheVariants as marks
+use Rattle.rest_marks.specs.declared.fault.MarksFault.TheVariants as marks
 use Rattle.comp_handle.proofs.resting.survey_marks.Goals as goal
 
 pub returns-else-keep_found : goal.returns-else-keep_found

@@ -1,9 +1,9 @@
 use Rattle.std.proofs.Common.{◌≡◌, ℕ, ◌<◌, List, length, get_or, refl, sym, ap, subst, ◌∙◌, arith}
 use Rattle.std.proofs.lemmas.List.{get_or_default}
 use Rattle.std.proofs.lemmas.List.Elements.{All-get_or}
-use Rattle.stopped_heap.specs.Following.{IsAhead}
-use Rattle.stopped_heap.proofs.Copied.{ahead-stays}
-use Rattle.stopped_heap.proofs.Reaching.{reached-inside}
+use Rattle.rest_marks.specs.Following.{IsAhead}
+use Rattle.rest_marks.proofs.Copied.{ahead-stays}
+use Rattle.rest_marks.proofs.Reaching.{reached-inside}
 use Rattle.mark_job.specs.Asked.{Asked, IsMetIn}
 use Rattle.mark_job.proofs.looking.look.Goals as goal
 

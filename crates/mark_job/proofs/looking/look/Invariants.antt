@@ -1,5 +1,5 @@
 use Rattle.std.proofs.Common.{◌≤◌}
-use Rattle.stopped_heap.specs.Following.{IsAhead}
+use Rattle.rest_marks.specs.Following.{IsAhead}
 use Rattle.mark_job.specs.Asked.{AreMetIn}
 use Rattle.mark_job.proofs.looking.look.Given as goal
 

@@ -1,5 +1,5 @@
 use Rattle.std.proofs.Common.{◌≡◌, ℕ, ◌<◌, true, get_or}
-use Rattle.stopped_heap.specs.Reached.{is_within}
+use Rattle.rest_marks.specs.Reached.{is_within}
 use Rattle.mark_job.proofs.marking.first_astray.Given as goal
 
 abbrev pub invariant-loop-k : goal.invariant-loop-k

@@ -1,5 +1,5 @@
 use Rattle.std.proofs.Common.{◌≡◌, ap, ◌∙◌, arith}
-use Rattle.stopped_heap.specs.Surveys.{marks_of}
+use Rattle.rest_marks.specs.Surveys.{marks_of}
 use Rattle.mark_job.proofs.Taking.{are-kept}
 use Rattle.mark_job.proofs.marking.taken.Goals as goal
 

@@ -1,8 +1,8 @@
 use Rattle.std.proofs.Common.{◌≡◌, ℕ, List, subst, sym, ◌∙◌}
 use Rattle.std.proofs.lemmas.Bool.{both_ways}
 use Rattle.heap_layout.specs.Bits.{bit}
-use Rattle.stopped_heap.specs.Reached.{AreReached, IsSound}
-use Rattle.stopped_heap.specs.Surveys.{with_roots}
+use Rattle.rest_marks.specs.Reached.{AreReached, IsSound}
+use Rattle.rest_marks.specs.Surveys.{with_roots}
 use Rattle.mark_job.proofs.OneFound.{all-met, marked-of, sound-moved}
 use Rattle.mark_job.proofs.surveying.survey_marked.Goals as goal
 

@@ -1,6 +1,6 @@
 use Rattle.std.proofs.Common.{length, sym, ap, subst, arith}
 use Rattle.stopped_heap.specs.Growth.{IsFoundIn}
-use Rattle.stopped_heap.specs.Places.{Found}
+use Rattle.rest_marks.specs.Places.{Found}
 use Rattle.pinned_heap.proofs.Both.{collected-pinned}
 use Rattle.pinned_heap.proofs.collecting.collect_pinned.Goals as goal
 

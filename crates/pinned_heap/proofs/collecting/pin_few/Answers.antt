@@ -1,6 +1,6 @@
 use Rattle.std.proofs.Common.{length, refl, sym, ap, subst, arith}
 use Rattle.stopped_heap.specs.Growth.{IsFoundIn}
-use Rattle.stopped_heap.specs.Places.{Found}
+use Rattle.rest_marks.specs.Places.{Found}
 use Rattle.pinned_heap.specs.Pinned.{IsPinFault}
 use Rattle.pinned_heap.specs.declared.fault.PinFault.TheVariants as pin
 use Rattle.pinned_heap.proofs.Both.{refused-pin, refused-runs}

@@ -1,8 +1,8 @@
 use Rattle.std.proofs.Common.{◌≡◌, ℕ, ◌++◌, All, List, sym, subst, ◌∙◌, arith}
 use Rattle.heap_layout.specs.declared.edition.Edition.{Edition}
 use Rattle.heap_layout.specs.Heap.{IsValue}
-use Rattle.stopped_heap.specs.Growing.{roots_on, IsMoreFaultOf}
-use Rattle.stopped_heap.specs.Reached.{AreReached}
+use Rattle.rest_marks.specs.Growing.{roots_on, IsMoreFaultOf}
+use Rattle.rest_marks.specs.Reached.{AreReached}
 use Rattle.pinned_heap.specs.Collecting.{AreFewWith, RefusesPinned}
 use Rattle.pinned_heap.proofs.Both.{refused-first, refused-pins, refused-roots, values-more}
 use Rattle.pinned_heap.proofs.collecting.survey_with.Goals as goal

@@ -1,7 +1,7 @@
 use Rattle.std.proofs.Common.{◌≡◌, ℕ, ◌+◌, ◌-◌, ◌*◌, ◌^◌, ◌<◌, false, length, sym, subst, arith}
 use Rattle.heap_layout.specs.Values.{is_immediate}
 use Rattle.pinned_heap.specs.Tables.{led_to_place}
-use Rattle.stopped_heap.proofs.Moving.{moved-first, moved-next}
+use Rattle.rest_slide.proofs.Moving.{moved-first, moved-next}
 use Rattle.pinned_heap.proofs.sliding.move_references.Goals as goal
 
 pub loop-k-init : goal.loop-k-init

@@ -1,5 +1,5 @@
 use Rattle.pinned_heap.specs.Tables.{led_to_place}
-use Rattle.stopped_heap.proofs.Moving.{IsMoved}
+use Rattle.rest_slide.proofs.Moving.{IsMoved}
 use Rattle.pinned_heap.proofs.sliding.move_references.Given as goal
 
 -- the first k references are moved

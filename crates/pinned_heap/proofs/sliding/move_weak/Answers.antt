@@ -1,6 +1,6 @@
 use Rattle.std.proofs.Common.{arith}
 use Rattle.pinned_heap.specs.Tables.{kept_at_place}
-use Rattle.stopped_heap.proofs.Moving.{moved-first, moved-next}
+use Rattle.rest_slide.proofs.Moving.{moved-first, moved-next}
 use Rattle.pinned_heap.proofs.sliding.move_weak.Goals as goal
 
 pub loop-k-init : goal.loop-k-init

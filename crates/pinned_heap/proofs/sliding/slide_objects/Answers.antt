@@ -3,7 +3,7 @@ use Rattle.std.proofs.lemmas.Bool.{cases_lt}
 use Rattle.heap_layout.specs.Bits.{bit}
 use Rattle.heap_layout.specs.Header.{refs_of, size_of}
 use Rattle.heap_layout.specs.Heap.{header_at}
-use Rattle.stopped_heap.proofs.Bounding.{bit-past}
+use Rattle.rest_marks.proofs.Bounding.{bit-past}
 use Rattle.pinned_heap.proofs.SlidingPart.{slid-first, slid-begun, slid-all, begun-within, begun-known, begun-moved}
 use Rattle.pinned_heap.proofs.sliding.slide_objects.Goals as goal
 

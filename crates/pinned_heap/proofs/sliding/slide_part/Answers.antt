@@ -1,7 +1,7 @@
 use Rattle.std.proofs.Common.{◌≡◌, ◌+◌, ℕ, true, false, length, refl, sym, ap, subst, ◌∙◌, arith}
 use Rattle.std.proofs.lemmas.Bool.{both_ways}
 use Rattle.heap_layout.specs.Bits.{bit}
-use Rattle.stopped_heap.proofs.Bounding.{bit-past}
+use Rattle.rest_marks.proofs.Bounding.{bit-past}
 use Rattle.pinned_heap.specs.Around.{IsFilled}
 use Rattle.pinned_heap.proofs.SlidingPart.{part-slid}
 use Rattle.pinned_heap.proofs.sliding.slide_part.Goals as goal

@@ -1,5 +1,5 @@
 use Rattle.std.proofs.Common.{◌≡◌, length}
-use Rattle.stopped_heap.specs.Checks.{AreAsked}
+use Rattle.rest_marks.specs.Checks.{AreAsked}
 use Rattle.stopped_heap.proofs.checking.ask_all.Given as goal
 
 abbrev pub invariant-loop-k : goal.invariant-loop-k

@@ -1,7 +1,7 @@
 use Rattle.std.proofs.Common.{ℕ, sym, subst, arith}
 use Rattle.std.proofs.lemmas.Result.{err_from_is_err_and}
-use Rattle.stopped_heap.specs.Looks.{Looking}
-use Rattle.stopped_heap.specs.Meeting.{AreOnce}
+use Rattle.rest_marks.specs.Looks.{Looking}
+use Rattle.rest_marks.specs.Meeting.{AreOnce}
 use Rattle.stopped_heap.proofs.AskedAll.{asked-looked, check-fault, unowned}
 use Rattle.stopped_heap.proofs.checking.ask_whole.Goals as goal
 

@@ -1,9 +1,9 @@
 use Rattle.std.proofs.Common.{◌≡◌, ℕ, ◌+◌, List, length, get_or, refl, ap, ◌∙◌, arith, length-take}
 use Rattle.std.proofs.lemmas.Grind.{common_steps, same_number_lists}
 use Rattle.heap_layout.specs.Heap.{live}
-use Rattle.stopped_heap.specs.Settled.{settled_words}
-use Rattle.stopped_heap.specs.Surveys.{surveyed, told}
-use Rattle.stopped_heap.proofs.Settling.{settled-all}
+use Rattle.rest_slide.specs.Settled.{settled_words}
+use Rattle.rest_marks.specs.Surveys.{surveyed, told}
+use Rattle.rest_slide.proofs.Settling.{settled-all}
 use Rattle.stopped_heap.proofs.Viewed.{last-count, settled-seen}
 use Rattle.stopped_heap.proofs.Whole.{no-room, is-collected}
 use Rattle.stopped_heap.proofs.collecting_lent.collect_in.Goals as goal

@@ -1,6 +1,6 @@
 use Rattle.std.proofs.Common.{◌≤◌, ℕ, List, ◌++◌, length, refl, sym, subst, ◌∙◌, arith}
 use Rattle.std.proofs.lemmas.List.{append-nil, take_all}
-use Rattle.stopped_heap.specs.Reached.{AreReached}
+use Rattle.rest_marks.specs.Reached.{AreReached}
 use Rattle.stopped_heap.proofs.finalizing.also_all.Goals as goal
 
 pub loop-next-init : goal.loop-next-init

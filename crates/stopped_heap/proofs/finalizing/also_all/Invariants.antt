@@ -1,5 +1,5 @@
 use Rattle.std.proofs.Common.{◌≡◌, ℕ, ◌-◌, ◌≤◌, List, ◌++◌, length, take}
-use Rattle.stopped_heap.specs.Reached.{AreReached}
+use Rattle.rest_marks.specs.Reached.{AreReached}
 use Rattle.stopped_heap.proofs.finalizing.also_all.Given as goal
 
 abbrev pub invariant-loop-next : goal.invariant-loop-next

@@ -2,12 +2,12 @@ use Rattle.std.proofs.Common.{ℕ, ◌≤◌, List, [], ◌++◌, filter, length
 use Rattle.heap_layout.specs.Heap.{from_address}
 use Rattle.heap_layout.specs.Limits.{most_words, most_roots}
 use Rattle.heap_layout.proofs.Bounds.{words_most}
-use Rattle.stopped_heap.specs.Growing.{roots_on, IsMoreFaultOf}
+use Rattle.rest_marks.specs.Growing.{roots_on, IsMoreFaultOf}
 use Rattle.stopped_heap.specs.Guarded.{is_lost}
-use Rattle.stopped_heap.specs.Meeting.{AllLead}
+use Rattle.rest_marks.specs.Meeting.{AllLead}
 use Rattle.stopped_heap.specs.Ordered.{references_of_all}
-use Rattle.stopped_heap.specs.Reached.{AreReached, IsHeapFaultOf}
-use Rattle.stopped_heap.specs.Surveys.{Surveyed}
+use Rattle.rest_marks.specs.Reached.{AreReached, IsHeapFaultOf}
+use Rattle.rest_marks.specs.Surveys.{Surveyed}
 use Rattle.stopped_heap.proofs.Guardians.{carried}
 use Rattle.stopped_heap.proofs.Waiting.{fault-led, self-reached}
 use Rattle.stopped_heap.proofs.finalizing.also_led.Goals as goal

@@ -1,5 +1,5 @@
 use Rattle.std.proofs.Common.{◌-◌, ◌^◌}
-use Rattle.stopped_heap.proofs.Refusing.{bad-reference}
+use Rattle.rest_marks.proofs.Refusing.{bad-reference}
 use Rattle.stopped_heap.proofs.finalizing.references_at.Goals as goal
 
 pub returns-in-Err-clause-fault : goal.returns-in-Err-clause-fault

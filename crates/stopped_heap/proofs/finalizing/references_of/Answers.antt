@@ -1,5 +1,5 @@
 use Rattle.std.proofs.Common.{◌≡◌, ℕ, List, ◌++◌, length, take, refl, sym, ap, subst, ◌∙◌, arith}
-use Rattle.stopped_heap.specs.Meeting.{AllLead}
+use Rattle.rest_marks.specs.Meeting.{AllLead}
 use Rattle.stopped_heap.specs.Ordered.{references_of_all}
 use Rattle.stopped_heap.proofs.Waiting.{lead-append, references-more}
 use Rattle.stopped_heap.proofs.finalizing.references_of.Goals as goal

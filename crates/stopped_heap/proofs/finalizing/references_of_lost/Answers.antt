@@ -1,5 +1,5 @@
 use Rattle.std.proofs.Common.{ℕ, ◌<◌, List, length, get_or, sym, ap, subst, ◌∙◌, arith}
-use Rattle.stopped_heap.specs.Growing.{roots_on}
+use Rattle.rest_marks.specs.Growing.{roots_on}
 use Rattle.stopped_heap.specs.Ordered.{references_of_all, IsAddress, ReachEach}
 use Rattle.stopped_heap.proofs.Waiting.{heap-more, lost-addresses, lost-each, lost-is}
 use Rattle.stopped_heap.proofs.finalizing.references_of_lost.Goals as goal

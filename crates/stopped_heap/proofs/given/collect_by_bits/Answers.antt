@@ -3,9 +3,9 @@ use Rattle.std.proofs.lemmas.List.{length-map, take_all}
 use Rattle.heap_layout.specs.declared.edition.Edition.{Edition}
 use Rattle.heap_layout.specs.Limits.{most_roots}
 use Rattle.mark_tables.specs.MarkBitmap.{set_bits}
-use Rattle.stopped_heap.specs.Given.{HasSlid}
-use Rattle.stopped_heap.specs.Places.{found_in, word_now, words_now, Found, IsAsFound, IsSlideFault}
-use Rattle.stopped_heap.specs.Surveys.{marks_of}
+use Rattle.rest_marks.specs.Given.{HasSlid}
+use Rattle.rest_marks.specs.Places.{found_in, word_now, words_now, Found, IsAsFound, IsSlideFault}
+use Rattle.rest_marks.specs.Surveys.{marks_of}
 use Rattle.stopped_heap.proofs.Slid.{collected-as}
 use Rattle.stopped_heap.proofs.given.collect_by_bits.Goals as goal
 

@@ -1,5 +1,5 @@
-use Rattle.stopped_heap.specs.Surveys.{marks_of}
-use Rattle.stopped_heap.proofs.Seen.{fault-seen, grown-ready, grown-same}
+use Rattle.rest_marks.specs.Surveys.{marks_of}
+use Rattle.rest_marks.proofs.Seen.{fault-seen, grown-ready, grown-same}
 use Rattle.stopped_heap.proofs.growing.grow.Goals as goal
 
 pub grow_in-requires : goal.grow_in-requires

@@ -1,9 +1,9 @@
 use Rattle.std.proofs.Common.{sym, ◌∙◌, arith}
 use Rattle.heap_layout.proofs.Bounds.{words_most}
 use Rattle.reachability.proofs.Rising.{has-contained}
-use Rattle.stopped_heap.specs.Surveys.{marks_of}
-use Rattle.stopped_heap.proofs.Grown.{onward-roots, onward-reached, mark-of}
-use Rattle.stopped_heap.proofs.Seen.{grown-onward, seen-fault-same}
+use Rattle.rest_marks.specs.Surveys.{marks_of}
+use Rattle.rest_marks.proofs.Grown.{onward-roots, onward-reached, mark-of}
+use Rattle.rest_marks.proofs.Seen.{grown-onward, seen-fault-same}
 use Rattle.stopped_heap.proofs.growing.grow_in.Goals as goal
 
 pub mark_in-requires-clause-few : goal.mark_in-requires-clause-few

@@ -1,7 +1,7 @@
 use Rattle.std.proofs.Common.{length, refl, subst}
 use Rattle.stopped_heap.specs.Growth.{IsFoundIn}
-use Rattle.stopped_heap.specs.Places.{found_in}
-use Rattle.stopped_heap.specs.Surveys.{Surveyed}
+use Rattle.rest_marks.specs.Places.{found_in}
+use Rattle.rest_marks.specs.Surveys.{Surveyed}
 use Rattle.stopped_heap.proofs.FoundIn.{grown-found}
 use Rattle.stopped_heap.proofs.growth.paused.Goals as goal
 

@@ -2,10 +2,10 @@ use Rattle.std.proofs.Common.{ℕ, List, get_or, refl, sym, subst}
 use Rattle.heap_layout.specs.declared.edition.Edition.{Edition}
 use Rattle.heap_layout.specs.Heap.{from_address}
 use Rattle.stopped_heap.specs.Ephemerons.{held_mark, AreHeld, IsHeldFaultOf}
-use Rattle.stopped_heap.specs.Growing.{roots_on}
+use Rattle.rest_marks.specs.Growing.{roots_on}
 use Rattle.stopped_heap.specs.Guarded.{IsOnFaultOf}
 use Rattle.stopped_heap.proofs.Guardians.{fault-reached, fault-valued, held-rooted, value-more}
-use Rattle.stopped_heap.proofs.Reaching.{reached-inside}
+use Rattle.rest_marks.proofs.Reaching.{reached-inside}
 use Rattle.stopped_heap.proofs.guarding.hold_more.Goals as goal
 
 pub returns-in-Err-clause-fault : goal.returns-in-Err-clause-fault

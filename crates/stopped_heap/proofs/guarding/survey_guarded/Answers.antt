@@ -1,7 +1,7 @@
 use Rattle.std.proofs.Common.{ℕ, List, [], ◌++◌, All, filter, length, take, sym, subst, ◌∙◌, arith}
 use Rattle.heap_layout.specs.declared.edition.Edition.{Edition}
 use Rattle.heap_layout.specs.Heap.{IsValue}
-use Rattle.stopped_heap.specs.Growing.{roots_on}
+use Rattle.rest_marks.specs.Growing.{roots_on}
 use Rattle.stopped_heap.specs.Guarded.{is_lost, AreHeldFrom, IsOnFaultOf}
 use Rattle.stopped_heap.proofs.Guardians.{carried, fault-begun, fault-first, fault-second, held-both, leads-both, lost-taken}
 use Rattle.stopped_heap.proofs.guarding.survey_guarded.Goals as goal

@@ -1,6 +1,6 @@
 use Rattle.std.proofs.Common.{List, ℕ, sym, subst}
-use Rattle.stopped_heap.specs.Reached.{AreReached, IsSound}
-use Rattle.stopped_heap.specs.Surveys.{marks_of}
+use Rattle.rest_marks.specs.Reached.{AreReached, IsSound}
+use Rattle.rest_marks.specs.Surveys.{marks_of}
 use Rattle.stopped_heap.proofs.in_place.collect_within.Goals as goal
 
 pub returns-clause-collected : goal.returns-clause-collected

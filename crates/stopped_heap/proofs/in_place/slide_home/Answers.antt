@@ -2,8 +2,8 @@ use Rattle.std.proofs.Common.{◌≡◌, ℕ, ◌++◌, drop, map, length, refl,
 use Rattle.heap_layout.specs.Heap.{live}
 use Rattle.page_plan.specs.Sliding.{live_words}
 use Rattle.stopped_heap.specs.Collecting.{HasCollected}
-use Rattle.stopped_heap.specs.Settled.{settled_word, settled_words}
-use Rattle.stopped_heap.specs.Surveys.{surveyed, told}
+use Rattle.rest_slide.specs.Settled.{settled_word, settled_words}
+use Rattle.rest_marks.specs.Surveys.{surveyed, told}
 use Rattle.stopped_heap.proofs.Viewed.{last-count, settled-seen}
 use Rattle.stopped_heap.proofs.Whole.{is-collected}
 use Rattle.stopped_heap.proofs.in_place.slide_home.Goals as goal

@@ -1,6 +1,6 @@
 use Rattle.std.proofs.Common.{◌≡◌, replicate, rules, arith}
 use Rattle.mark_tables.proofs.Runs.{zeros-bit}
-use Rattle.stopped_heap.proofs.Queued.{once-none}
+use Rattle.rest_marks.proofs.Queued.{once-none}
 use Rattle.stopped_heap.proofs.lane.empty.Goals as goal
 
 pub invariant_of-result : goal.invariant_of-result

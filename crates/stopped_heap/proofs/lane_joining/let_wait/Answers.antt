@@ -1,5 +1,5 @@
 use Rattle.std.proofs.Common.{sym, ◌∙◌}
-use Rattle.stopped_heap.proofs.Queued.{once-push}
+use Rattle.rest_marks.proofs.Queued.{once-push}
 use Rattle.stopped_heap.proofs.lane_joining.let_wait.Goals as goal
 
 pub returns-clause-once : goal.returns-clause-once

@@ -1,7 +1,7 @@
 use Rattle.std.proofs.Common.{◌≡◌, ℕ, ◌<◌, ◌⊎◌, true, length, get_or, drop}
 use Rattle.heap_layout.specs.Bits.{bit}
-use Rattle.stopped_heap.specs.LaneParts.{met_at, IsOneOf}
-use Rattle.stopped_heap.specs.Meeting.{AreMet, AreOnce}
+use Rattle.rest_marks.specs.LaneParts.{met_at, IsOneOf}
+use Rattle.rest_marks.specs.Meeting.{AreMet, AreOnce}
 use Rattle.stopped_heap.proofs.lane_joining.take_all.Given as goal
 
 -- the remaining indices make of the queue what all make of the first one

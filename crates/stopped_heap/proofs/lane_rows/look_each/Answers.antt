@@ -2,11 +2,11 @@ use Rattle.std.proofs.Common.{◌≡◌, ℕ, ◌+◌, ◌-◌, ◌<◌, ◌⊎�
 use Rattle.std.proofs.lemmas.Result.{err_from_is_err_and}
 use Rattle.std.proofs.lemmas.List.{get_or_default, take_all}
 use Rattle.reachability.proofs.Queues.{has-at}
-use Rattle.stopped_heap.specs.Lanes.{laned, IsLaneAfterRows, IsLaneFieldsFault}
-use Rattle.stopped_heap.specs.LookFaults.{IsPlacingFault}
-use Rattle.stopped_heap.specs.Looks.{row_size, rows_of, AreLookedAt, AreRowsAt}
+use Rattle.rest_marks.specs.Lanes.{laned, IsLaneAfterRows, IsLaneFieldsFault}
+use Rattle.rest_marks.specs.LookFaults.{IsPlacingFault}
+use Rattle.rest_marks.specs.Looks.{row_size, rows_of, AreLookedAt, AreRowsAt}
 use Rattle.stopped_heap.proofs.LanedRows.{AreLaneTaken, lane-taken-after, lane-taken-more}
-use Rattle.stopped_heap.proofs.RowsLooked.{row-at, rows-all}
+use Rattle.rest_marks.proofs.RowsLooked.{row-at, rows-all}
 use Rattle.stopped_heap.proofs.lane_rows.look_each.Goals as goal
 
 pub returns-then-next-len-clause-fault : goal.returns-then-next-len-clause-fault

@@ -1,6 +1,6 @@
 use Rattle.std.proofs.Common.{◌≡◌, ◌-◌, ◌≤◌, length, drop}
-use Rattle.stopped_heap.specs.Looks.{rows_of}
-use Rattle.stopped_heap.specs.Meeting.{AreMet, AreOnce}
+use Rattle.rest_marks.specs.Looks.{rows_of}
+use Rattle.rest_marks.specs.Meeting.{AreMet, AreOnce}
 use Rattle.stopped_heap.proofs.LanedRows.{AreLaneTaken}
 use Rattle.stopped_heap.proofs.lane_rows.look_each.Given as goal
 

@@ -2,8 +2,8 @@ use Rattle.std.proofs.Common.{◌≡◌, ℕ, List, length, drop, subst, ◌∙�
 use Rattle.std.proofs.lemmas.Grind.{common_steps}
 use Rattle.std.proofs.lemmas.List.{take_at}
 use Rattle.mark_tables.specs.MarkBitmap.{AreOffsets}
-use Rattle.stopped_heap.proofs.Lent.{lent-sound, told-sound, told-indices}
-use Rattle.stopped_heap.proofs.Refusing.{marks-refused}
+use Rattle.rest_marks.proofs.Lent.{lent-sound, told-sound, told-indices}
+use Rattle.rest_marks.proofs.Refusing.{marks-refused}
 use Rattle.stopped_heap.proofs.lending.fill_by_marks.Goals as goal
 
 pub returns-in-Err-take_marks-clause-fault : goal.returns-in-Err-take_marks-clause-fault

@@ -1,4 +1,4 @@
-use Rattle.stopped_heap.proofs.LookedAt.{clean-same}
+use Rattle.rest_marks.proofs.LookedAt.{clean-same}
 use Rattle.stopped_heap.proofs.looks.clean_is_same.Goals as goal
 
 pub returns : goal.returns

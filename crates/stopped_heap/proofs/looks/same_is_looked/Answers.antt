@@ -1,4 +1,4 @@
-use Rattle.stopped_heap.proofs.LookedAt.{looked-same}
+use Rattle.rest_marks.proofs.LookedAt.{looked-same}
 use Rattle.stopped_heap.proofs.looks.same_is_looked.Goals as goal
 
 pub returns : goal.returns

@@ -2,7 +2,7 @@ use Rattle.std.proofs.Common.{◌≡◌, ℕ, List, length, drop, subst, ◌∙�
 use Rattle.std.proofs.lemmas.Grind.{common_steps}
 use Rattle.std.proofs.lemmas.List.{take_at}
 use Rattle.mark_tables.specs.MarkBitmap.{AreOffsets}
-use Rattle.stopped_heap.proofs.Surveying.{IsMarkedBy, are-reached, sound-of, told-sound, told-indices}
+use Rattle.rest_marks.proofs.Surveying.{IsMarkedBy, are-reached, sound-of, told-sound, told-indices}
 use Rattle.stopped_heap.proofs.making.tables_of.Goals as goal
 
 pub returns : goal.returns

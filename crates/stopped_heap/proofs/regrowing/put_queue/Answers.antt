@@ -1,7 +1,7 @@
 use Rattle.std.proofs.Common.{◌≡◌, ◌+◌, ◌∙◌, sym, arith}
 use Rattle.std.proofs.lemmas.Result.{err_from_is_err_and}
 use Rattle.stopped_heap.proofs.Listing.{listed-met, listed-more, listed-next, listed-none, listed-same, once-wider}
-use Rattle.stopped_heap.proofs.Queued.{once-short}
+use Rattle.rest_marks.proofs.Queued.{once-short}
 use Rattle.stopped_heap.proofs.regrowing.put_queue.Goals as goal
 use Rattle.stopped_heap.proofs.regrowing.put_queue.Goals.{then-is_set+in_ok-push, else-is_set}
 

@@ -1,9 +1,9 @@
 use Rattle.std.proofs.Common.{◌≡◌, length, ◌∙◌, arith, length-take}
 use Rattle.std.proofs.lemmas.Grind.{same_number_lists}
 use Rattle.heap_layout.specs.Heap.{live}
-use Rattle.stopped_heap.specs.Settled.{settled_words}
-use Rattle.stopped_heap.specs.Surveys.{heap_of, with_roots}
-use Rattle.stopped_heap.proofs.Settling.{settled-all}
+use Rattle.rest_slide.specs.Settled.{settled_words}
+use Rattle.rest_marks.specs.Surveys.{heap_of, with_roots}
+use Rattle.rest_slide.proofs.Settling.{settled-all}
 use Rattle.stopped_heap.proofs.Whole.{no-room, is-collected}
 use Rattle.stopped_heap.proofs.threads.collect_by_threads.Goals as goal
 

@@ -1,8 +1,8 @@
 use Rattle.std.proofs.Common.{ℕ, List, length, get_or, drop, ap, ◌∙◌}
 use Rattle.std.proofs.lemmas.List.{get_or-take, get_or-drop}
 use Rattle.heap_layout.specs.Heap.{live}
-use Rattle.stopped_heap.specs.Settled.{settled_words}
-use Rattle.stopped_heap.specs.Surveys.{heap_of}
+use Rattle.rest_slide.specs.Settled.{settled_words}
+use Rattle.rest_marks.specs.Surveys.{heap_of}
 use Rattle.stopped_heap.proofs.threads.slide_at.Goals as goal
 
 pub returns-clause-words : goal.returns-clause-words

@@ -3,7 +3,7 @@ use Rattle.std.proofs.lemmas.Bool.{cases_lt}
 use Rattle.std.proofs.lemmas.List.{get_or_append_left, length-take-le}
 use Rattle.std.proofs.lemmas.Result.{err_from_is_err_and}
 use Rattle.heap_layout.specs.Bits.{bit}
-use Rattle.stopped_heap.specs.Reached.{IsWordOf}
+use Rattle.rest_marks.specs.Reached.{IsWordOf}
 use Rattle.young_heap.specs.Rows.{here}
 use Rattle.young_heap.specs.Young.{AreKeptYoung}
 use Rattle.young_heap.proofs.Bearing.{fault-back, old-on, remembered-on}

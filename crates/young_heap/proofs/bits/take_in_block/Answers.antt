@@ -1,6 +1,6 @@
 use Rattle.std.proofs.Common.{◌+◌, ◌-◌, ◌*◌, ◌/◌, ◌%◌, arith}
 use Rattle.mark_tables.proofs.Masks.{set-keeps, set-sets}
-use Rattle.stopped_heap.proofs.Taking.{free-bit, taken-bit}
+use Rattle.rest_marks.proofs.Taking.{free-bit, taken-bit}
 use Rattle.young_heap.proofs.bits.take_in_block.Goals as goal
 
 pub returns-then-block-wanted-ne0-clause-taken : goal.returns-then-block-wanted-ne0-clause-taken

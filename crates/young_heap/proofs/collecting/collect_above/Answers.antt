@@ -4,9 +4,9 @@ use Rattle.heap_layout.specs.Heap.{live}
 use Rattle.page_plan.specs.Sliding.{live_words}
 use Rattle.reachability.proofs.Queues.{place-of}
 use Rattle.stopped_heap.specs.Collecting.{IsCollected}
-use Rattle.stopped_heap.specs.Reached.{is_within}
-use Rattle.stopped_heap.specs.Settled.{settled_word, settled_words}
-use Rattle.stopped_heap.specs.Surveys.{marks_of, told}
+use Rattle.rest_marks.specs.Reached.{is_within}
+use Rattle.rest_slide.specs.Settled.{settled_word, settled_words}
+use Rattle.rest_marks.specs.Surveys.{marks_of, told}
 use Rattle.stopped_heap.proofs.Viewed.{last-count, settled-seen}
 use Rattle.std.proofs.lemmas.List.{get_or-map, length-map}
 use Rattle.std.proofs.lemmas.Result.{err_from_is_err_and}

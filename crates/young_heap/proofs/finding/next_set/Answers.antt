@@ -1,6 +1,6 @@
 use Rattle.std.proofs.Common.{◌*◌, ◌/◌, ◌%◌, get_or, inl, inr, refl, arith}
 use Rattle.std.proofs.lemmas.Bool.{cases_lt}
-use Rattle.stopped_heap.proofs.Scanning.{next-there, none-there}
+use Rattle.rest_marks.proofs.Scanning.{next-there, none-there}
 use Rattle.young_heap.proofs.finding.next_set.Goals as goal
 
 pub returns-then-rest-ne0-clause-none : goal.returns-then-rest-ne0-clause-none

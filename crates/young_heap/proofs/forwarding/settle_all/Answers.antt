@@ -3,7 +3,7 @@ use Rattle.std.proofs.lemmas.Bool.{cases_eq}
 use Rattle.std.proofs.lemmas.Grind.{same_number_lists}
 use Rattle.std.proofs.lemmas.List.{length-map, length-set, get_or-map as read_map}
 use Rattle.mark_tables.specs.MarkBitmap.{set_bits}
-use Rattle.stopped_heap.specs.Looking.{kept_by}
+use Rattle.rest_marks.specs.Looking.{kept_by}
 use Rattle.young_heap.proofs.forwarding.settle_all.Goals as goal
 
 pub loop-k-preserved : goal.loop-k-preserved

@@ -1,6 +1,6 @@
 use Rattle.std.proofs.Common.{◌≡◌, ℕ, ◌<◌, ◌≤◌, length, get_or}
 use Rattle.mark_tables.specs.MarkBitmap.{set_bits}
-use Rattle.stopped_heap.specs.Looking.{kept_by}
+use Rattle.rest_marks.specs.Looking.{kept_by}
 use Rattle.young_heap.proofs.forwarding.settle_all.Given as goal
 
 -- the first k words are forwarded

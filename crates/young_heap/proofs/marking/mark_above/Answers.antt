@@ -6,15 +6,15 @@ use Rattle.heap_layout.specs.Header.{size_of}
 use Rattle.heap_layout.specs.Heap.{header_at, object_at, IsPlaced}
 use Rattle.mark_tables.proofs.Runs.{IsRunSet}
 use Rattle.reachability.specs.Queue.{after_word}
-use Rattle.stopped_heap.specs.Meeting.{AllLead}
-use Rattle.stopped_heap.specs.Reached.{IsWordOf}
-use Rattle.stopped_heap.proofs.Queued.{once-none}
-use Rattle.stopped_heap.proofs.Reaching.{references_of}
+use Rattle.rest_marks.specs.Meeting.{AllLead}
+use Rattle.rest_marks.specs.Reached.{IsWordOf}
+use Rattle.rest_marks.proofs.Queued.{once-none}
+use Rattle.rest_marks.proofs.Reaching.{references_of}
 use Rattle.young_heap.specs.Young.{is_above, seeds, words_at, AllLed}
 use Rattle.young_heap.proofs.Following.{reached-above, followed-first, followed-next, followed-few, all-followed, above-at, reached-at}
 use Rattle.young_heap.proofs.Leads.{all-led-same, kept-on, led-same}
 use Rattle.young_heap.specs.Refusals.{IsMet, IsYoungFaultOf}
-use Rattle.stopped_heap.specs.declared.fault.SurveyFault.TheVariants.{Overlap}
+use Rattle.rest_marks.specs.declared.fault.SurveyFault.TheVariants.{Overlap}
 use Rattle.young_heap.proofs.Refusing.{bad-reference, bad-weak, overlapping}
 use Rattle.young_heap.proofs.Spreading.{spread-first, spread-next, spread-done, spread-only, spread-apart}
 use Rattle.young_heap.proofs.marking.mark_above.Goals as goal

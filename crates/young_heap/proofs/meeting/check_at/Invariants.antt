@@ -1,5 +1,5 @@
 use Rattle.std.proofs.Common.{◌≡◌, ℕ, ◌<◌, true, length, get_or}
-use Rattle.stopped_heap.specs.Reached.{is_within}
+use Rattle.rest_marks.specs.Reached.{is_within}
 use Rattle.young_heap.proofs.meeting.check_at.Given as goal
 
 abbrev pub invariant-loop-n : goal.invariant-loop-n

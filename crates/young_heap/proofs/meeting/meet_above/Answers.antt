@@ -1,5 +1,5 @@
 use Rattle.std.proofs.Common.{sym, ◌∙◌, arith}
-use Rattle.stopped_heap.proofs.Queued.{once-push, once-short}
+use Rattle.rest_marks.proofs.Queued.{once-push, once-short}
 use Rattle.young_heap.proofs.meeting.meet_above.Goals as goal
 
 pub returns-in_default-clause-short : goal.returns-in_default-clause-short

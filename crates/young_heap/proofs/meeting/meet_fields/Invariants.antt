@@ -1,6 +1,6 @@
 use Rattle.std.proofs.Common.{◌≡◌, ℕ, ◌<◌, ◌≤◌, true, vec_capacity, fold, drop, length, get_or}
 use Rattle.reachability.specs.Queue.{after_word}
-use Rattle.stopped_heap.specs.Meeting.{AreOnce}
+use Rattle.rest_marks.specs.Meeting.{AreOnce}
 use Rattle.young_heap.specs.Young.{is_above, is_led, words_at, AreKeptBelow, AreMetAbove}
 use Rattle.young_heap.proofs.meeting.meet_fields.Given as goal
 

@@ -1,6 +1,6 @@
 use Rattle.std.proofs.Common.{◌*◌, length, inl, inr, ◌∙◌, arith}
 use Rattle.std.proofs.lemmas.Bool.{cases_lt}
-use Rattle.stopped_heap.proofs.Bounding.{bit-past}
+use Rattle.rest_marks.proofs.Bounding.{bit-past}
 use Rattle.young_heap.proofs.promoting.clear_from.Goals as goal
 
 pub loop-k-init : goal.loop-k-init

@@ -3,7 +3,7 @@ use Rattle.std.proofs.lemmas.Grind.{take-set_at}
 use Rattle.std.proofs.lemmas.List.{get_or-take, length-take-le, length-set, take_all}
 use Rattle.std.proofs.lemmas.Nat.{ones-le}
 use Rattle.mark_tables.specs.MarkBitmap.{AreOffsets}
-use Rattle.stopped_heap.proofs.Counts.{AreCountedTo, counted-few, counted-next, counted-all}
+use Rattle.rest_marks.proofs.Counts.{AreCountedTo, counted-few, counted-next, counted-all}
 use Rattle.young_heap.proofs.recounting.recount.Goals as goal
 
 pub loop-b-init : goal.loop-b-init

@@ -1,5 +1,5 @@
 use Rattle.std.proofs.Common.{◌≡◌, take, length}
-use Rattle.stopped_heap.proofs.Counts.{AreCountedTo}
+use Rattle.rest_marks.proofs.Counts.{AreCountedTo}
 use Rattle.young_heap.proofs.recounting.recount.Given as goal
 
 abbrev pub invariant-loop-b : goal.invariant-loop-b

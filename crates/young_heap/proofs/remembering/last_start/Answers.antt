@@ -1,7 +1,7 @@
 use Rattle.std.proofs.Common.{◌≡◌, ℕ, ◌/◌, false, get_or, inl, inr, sym, ap, ◌∙◌, arith}
 use Rattle.std.proofs.lemmas.Bool.{cases_eq, cases_lt}
 use Rattle.heap_layout.specs.Bits.{bit}
-use Rattle.stopped_heap.proofs.Bounding.{bit-empty}
+use Rattle.rest_marks.proofs.Bounding.{bit-empty}
 use Rattle.young_heap.proofs.remembering.last_start.Goals as goal
 use Rattle.young_heap.proofs.remembering.last_start.Goals.{then-starts-i-eq0, else-starts-i-eq0}
 

@@ -5,7 +5,7 @@ use Rattle.heap_layout.specs.Values.{is_immediate}
 use Rattle.mark_tables.specs.MarkBitmap.{set_bits}
 use Rattle.reachability.specs.Queue.{has}
 use Rattle.reachability.proofs.Queues.{has-at}
-use Rattle.stopped_heap.specs.Looking.{led_to}
+use Rattle.rest_marks.specs.Looking.{led_to}
 use Rattle.young_heap.proofs.Staying.{differ}
 use Rattle.young_heap.proofs.sliding.settle_fields.Goals as goal
 

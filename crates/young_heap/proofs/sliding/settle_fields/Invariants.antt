@@ -1,7 +1,7 @@
 use Rattle.std.proofs.Common.{◌≡◌, ℕ, ◌<◌, ◌≤◌, false, length, get_or}
 use Rattle.mark_tables.specs.MarkBitmap.{set_bits}
 use Rattle.reachability.specs.Queue.{has}
-use Rattle.stopped_heap.specs.Looking.{led_to}
+use Rattle.rest_marks.specs.Looking.{led_to}
 use Rattle.young_heap.proofs.sliding.settle_fields.Given as goal
 
 -- the first n fields are forwarded

@@ -4,7 +4,7 @@ use Rattle.std.proofs.lemmas.List.{length-set}
 use Rattle.mark_tables.specs.MarkBitmap.{set_bits}
 use Rattle.reachability.specs.Queue.{has}
 use Rattle.reachability.proofs.Queues.{has-at}
-use Rattle.stopped_heap.specs.Looking.{kept_by}
+use Rattle.rest_marks.specs.Looking.{kept_by}
 use Rattle.young_heap.proofs.Staying.{differ}
 use Rattle.young_heap.proofs.sliding.settle_weaks.Goals as goal
 

@@ -1,7 +1,7 @@
 use Rattle.std.proofs.Common.{◌≡◌, ℕ, ◌<◌, ◌≤◌, false, length, get_or}
 use Rattle.mark_tables.specs.MarkBitmap.{set_bits}
 use Rattle.reachability.specs.Queue.{has}
-use Rattle.stopped_heap.specs.Looking.{kept_by}
+use Rattle.rest_marks.specs.Looking.{kept_by}
 use Rattle.young_heap.proofs.sliding.settle_weaks.Given as goal
 
 -- the first n weak words are settled

@@ -2,7 +2,7 @@ use Rattle.std.proofs.Common.{◌≡◌, ◌<◌, length, arith, ◌∙◌}
 use Rattle.heap_layout.specs.Header.{refs_of, size_of}
 use Rattle.heap_layout.specs.Heap.{header_at}
 use Rattle.mark_tables.specs.MarkBitmap.{set_bits}
-use Rattle.stopped_heap.proofs.SlidingDown.{IsDown, next-down, down-next, down-all}
+use Rattle.rest_slide.proofs.SlidingDown.{IsDown, next-down, down-next, down-all}
 use Rattle.young_heap.proofs.Entering.{down-from}
 use Rattle.young_heap.proofs.Safe.{at-first, at-next, next-inside, no-field-above, safe-next}
 use Rattle.young_heap.proofs.Staying.{old-settled}

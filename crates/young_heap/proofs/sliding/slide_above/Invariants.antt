@@ -1,7 +1,7 @@
 use Rattle.std.proofs.Common.{◌≡◌, ℕ, ◌-◌, ◌<◌, false, get_or}
 use Rattle.reachability.specs.Queue.{has}
-use Rattle.stopped_heap.specs.Surveys.{AreTables}
-use Rattle.stopped_heap.proofs.SlidingDown.{IsSlidDown}
+use Rattle.rest_marks.specs.Surveys.{AreTables}
+use Rattle.rest_slide.proofs.SlidingDown.{IsSlidDown}
 use Rattle.young_heap.specs.Young.{AreOld, AreRemembered}
 use Rattle.young_heap.proofs.Safe.{IsAt}
 use Rattle.young_heap.proofs.sliding.slide_above.Given as goal

@@ -1,8 +1,8 @@
 use Rattle.std.proofs.Common.{◌≡◌, ℕ, ◌+◌, ◌-◌, ◌*◌, ◌^◌, ◌<◌, false, length, sym, subst, arith}
 use Rattle.heap_layout.specs.Values.{is_immediate}
 use Rattle.mark_tables.specs.MarkBitmap.{set_bits}
-use Rattle.stopped_heap.specs.Looking.{led_to}
-use Rattle.stopped_heap.proofs.Moving.{moved-first, moved-next}
+use Rattle.rest_marks.specs.Looking.{led_to}
+use Rattle.rest_slide.proofs.Moving.{moved-first, moved-next}
 use Rattle.young_heap.proofs.sliding_down.move_references.Goals as goal
 
 pub loop-k-init : goal.loop-k-init

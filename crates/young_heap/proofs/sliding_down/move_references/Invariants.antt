@@ -1,6 +1,6 @@
 use Rattle.mark_tables.specs.MarkBitmap.{set_bits}
-use Rattle.stopped_heap.specs.Looking.{led_to}
-use Rattle.stopped_heap.proofs.Moving.{IsMoved}
+use Rattle.rest_marks.specs.Looking.{led_to}
+use Rattle.rest_slide.proofs.Moving.{IsMoved}
 use Rattle.young_heap.proofs.sliding_down.move_references.Given as goal
 
 -- the first k references are moved

@@ -1,7 +1,7 @@
 use Rattle.std.proofs.Common.{arith}
 use Rattle.mark_tables.specs.MarkBitmap.{set_bits}
-use Rattle.stopped_heap.specs.Looking.{kept_by}
-use Rattle.stopped_heap.proofs.Moving.{moved-first, moved-next}
+use Rattle.rest_marks.specs.Looking.{kept_by}
+use Rattle.rest_slide.proofs.Moving.{moved-first, moved-next}
 use Rattle.young_heap.proofs.sliding_down.move_weak.Goals as goal
 
 pub loop-k-init : goal.loop-k-init

@@ -1,6 +1,6 @@
 use Rattle.mark_tables.specs.MarkBitmap.{set_bits}
-use Rattle.stopped_heap.specs.Looking.{kept_by}
-use Rattle.stopped_heap.proofs.Moving.{IsMoved}
+use Rattle.rest_marks.specs.Looking.{kept_by}
+use Rattle.rest_slide.proofs.Moving.{IsMoved}
 use Rattle.young_heap.proofs.sliding_down.move_weak.Given as goal
 
 -- the first k weak words are moved

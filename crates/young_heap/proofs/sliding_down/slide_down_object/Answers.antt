@@ -1,6 +1,6 @@
 use Rattle.std.proofs.Common.{◌≡◌, ℕ, ◌+◌, ◌-◌, get_or, ap, ◌∙◌, arith, get_or-set_other}
 use Rattle.mark_tables.specs.MarkBitmap.{set_bits}
-use Rattle.stopped_heap.specs.Looking.{kept_by}
+use Rattle.rest_marks.specs.Looking.{kept_by}
 use Rattle.young_heap.proofs.sliding_down.slide_down_object.Goals as goal
 
 pub returns-clause-weak : goal.returns-clause-weak

@@ -1,6 +1,6 @@
 use Rattle.std.proofs.Common.{ℕ, List, subst, ◌∙◌, arith}
-use Rattle.stopped_heap.specs.Following.{IsAhead}
-use Rattle.stopped_heap.proofs.Copied.{ahead-stays}
+use Rattle.rest_marks.specs.Following.{IsAhead}
+use Rattle.rest_marks.proofs.Copied.{ahead-stays}
 use Rattle.mark_job.proofs.following.Marks.look.Goals as goal
 
 pub loop-preserved : goal.loop-preserved

@@ -1,5 +1,5 @@
 use Rattle.std.proofs.Common.{◌≡◌, ◌≤◌}
-use Rattle.stopped_heap.specs.Following.{IsAhead}
+use Rattle.rest_marks.specs.Following.{IsAhead}
 use Rattle.mark_job.proofs.following.Marks.look.Given as goal
 
 abbrev pub invariant-loop : goal.invariant-loop

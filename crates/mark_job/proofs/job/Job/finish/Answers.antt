@@ -1,5 +1,5 @@
 use Rattle.std.proofs.Common.{IfErr, subst}
-use Rattle.stopped_heap.specs.Reached.{IsFaultOf}
+use Rattle.rest_marks.specs.Reached.{IsFaultOf}
 use Rattle.mark_job.specs.Asked.{Asked}
 use Rattle.mark_job.proofs.job.Job.finish.Goals as goal
 

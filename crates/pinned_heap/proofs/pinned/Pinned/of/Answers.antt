@@ -1,7 +1,7 @@
 use Rattle.std.proofs.Common.{◌≡◌, ℕ, ◌^◌, ◌≤◌, List, length, get_or, sym, subst, ◌∙◌, arith}
 use Rattle.std.proofs.lemmas.List.{with_items_is}
 use Rattle.heap_layout.specs.Heap.{is_start}
-use Rattle.stopped_heap.specs.Surveys.{marks_of}
+use Rattle.rest_marks.specs.Surveys.{marks_of}
 use Rattle.pinned_heap.specs.Around.{stays as is_pinned}
 use Rattle.pinned_heap.specs.Pinned.{is_object}
 use Rattle.pinned_heap.specs.Tables.{is_pin}

@@ -1,9 +1,9 @@
 use Rattle.std.proofs.Common.{ℕ, List, [], sym, subst}
 use Rattle.heap_layout.specs.declared.edition.Edition.{Edition}
 use Rattle.heap_layout.specs.Bits.{bit}
-use Rattle.stopped_heap.specs.Given.{heap_now}
+use Rattle.rest_marks.specs.Given.{heap_now}
 use Rattle.stopped_heap.specs.Growth.{IsFoundIn}
-use Rattle.stopped_heap.specs.Surveys.{told, AreTables}
+use Rattle.rest_marks.specs.Surveys.{told, AreTables}
 use Rattle.pinned_heap.specs.Around.{IsSlidAround}
 use Rattle.pinned_heap.specs.Pinned.{is_still, FoundAround}
 use Rattle.pinned_heap.proofs.Found.{slid-found, tables-in}

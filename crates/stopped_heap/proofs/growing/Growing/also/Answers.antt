@@ -4,11 +4,11 @@ use Rattle.std.proofs.lemmas.List.{get_or_default, take_at}
 use Rattle.heap_layout.specs.declared.edition.Edition.{Edition}
 use Rattle.heap_layout.specs.Heap.{IsValue}
 use Rattle.heap_layout.specs.Values.{or_immediate}
-use Rattle.stopped_heap.specs.Growing.{roots_on}
-use Rattle.stopped_heap.specs.Reached.{AreReached}
-use Rattle.stopped_heap.specs.Surveys.{marks_of, Surveyed}
-use Rattle.stopped_heap.proofs.Grown.{reached-together}
-use Rattle.stopped_heap.proofs.Heads.{heads-lead}
+use Rattle.rest_marks.specs.Growing.{roots_on}
+use Rattle.rest_marks.specs.Reached.{AreReached}
+use Rattle.rest_marks.specs.Surveys.{marks_of, Surveyed}
+use Rattle.rest_marks.proofs.Grown.{reached-together}
+use Rattle.rest_marks.proofs.Heads.{heads-lead}
 use Rattle.stopped_heap.proofs.growing.Growing.also.Goals as goal
 
 pub returns-clause-together : goal.returns-clause-together

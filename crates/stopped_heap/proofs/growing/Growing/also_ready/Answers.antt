@@ -1,9 +1,9 @@
 use Rattle.std.proofs.Common.{◌++◌, All, filter, length, take, ap, ◌∙◌}
 use Rattle.heap_layout.specs.declared.edition.Edition.{Edition}
 use Rattle.heap_layout.specs.Heap.{is_value, IsValue}
-use Rattle.stopped_heap.specs.Growing.{roots_on, IsMoreFaultOf}
+use Rattle.rest_marks.specs.Growing.{roots_on, IsMoreFaultOf}
 use Rattle.stopped_heap.specs.Guarded.{is_lost}
-use Rattle.stopped_heap.specs.Reached.{AreReached}
+use Rattle.rest_marks.specs.Reached.{AreReached}
 use Rattle.stopped_heap.proofs.Guardians.{carried, lost-taken}
 use Rattle.stopped_heap.proofs.Waiting.{fault-ready, waiting-leads, waiting-reached}
 use Rattle.stopped_heap.proofs.growing.Growing.also_ready.Goals as goal

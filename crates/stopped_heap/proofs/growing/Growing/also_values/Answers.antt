@@ -3,11 +3,11 @@ use Rattle.std.proofs.lemmas.Grind.{common_steps}
 use Rattle.std.proofs.lemmas.List.{take_at}
 use Rattle.heap_layout.specs.declared.edition.Edition.{Edition}
 use Rattle.stopped_heap.specs.Ephemerons.{AreHeld, IsHeldFaultOf}
-use Rattle.stopped_heap.specs.Growing.{IsGrown, IsGrownIn}
-use Rattle.stopped_heap.specs.Surveys.{marks_of, Surveyed}
-use Rattle.stopped_heap.proofs.Grown.{set-of}
+use Rattle.rest_marks.specs.Growing.{IsGrown, IsGrownIn}
+use Rattle.rest_marks.specs.Surveys.{marks_of, Surveyed}
+use Rattle.rest_marks.proofs.Grown.{set-of}
 use Rattle.stopped_heap.proofs.Held.{are-held}
-use Rattle.stopped_heap.proofs.Seen.{grown-same}
+use Rattle.rest_marks.proofs.Seen.{grown-same}
 use Rattle.stopped_heap.proofs.SeenHeld.{held-fault-seen}
 use Rattle.stopped_heap.proofs.growing.Growing.also_values.Goals as goal
 

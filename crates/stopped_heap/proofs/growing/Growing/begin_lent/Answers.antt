@@ -1,6 +1,6 @@
 use Rattle.std.proofs.Common.{◌≡◌, ◌+◌, ◌/◌, ℕ, length, ap, ◌∙◌, arith}
 use Rattle.std.proofs.lemmas.List.{length-replicate}
-use Rattle.stopped_heap.proofs.Grown.{grown-none, marks-none}
+use Rattle.rest_marks.proofs.Grown.{grown-none, marks-none}
 use Rattle.stopped_heap.proofs.growing.Growing.begin_lent.Goals as goal
 
 pub invariant_of-result : goal.invariant_of-result

@@ -4,14 +4,14 @@ use Rattle.std.proofs.lemmas.List.{get_or_default, take_at}
 use Rattle.heap_layout.specs.declared.edition.Edition.{Edition}
 use Rattle.heap_layout.specs.Heap.{IsValue}
 use Rattle.heap_layout.specs.Values.{or_immediate}
-use Rattle.stopped_heap.specs.Growing.{roots_on, IsGrownIn, IsSeenFaultOf}
+use Rattle.rest_marks.specs.Growing.{roots_on, IsGrownIn, IsSeenFaultOf}
 use Rattle.stopped_heap.specs.Growth.{HasGrown, IsGrowthFaultOf}
-use Rattle.stopped_heap.specs.Marks.{AllKept}
-use Rattle.stopped_heap.specs.Places.{found_in, Found}
-use Rattle.stopped_heap.specs.Reached.{AreReached}
-use Rattle.stopped_heap.specs.Surveys.{marks_of}
+use Rattle.rest_marks.specs.Marks.{AllKept}
+use Rattle.rest_marks.specs.Places.{found_in, Found}
+use Rattle.rest_marks.specs.Reached.{AreReached}
+use Rattle.rest_marks.specs.Surveys.{marks_of}
 use Rattle.stopped_heap.proofs.FoundIn.{grown-found, grown-of, has-fault, has-grown, some-in}
-use Rattle.stopped_heap.proofs.Heads.{heads-lead}
+use Rattle.rest_marks.proofs.Heads.{heads-lead}
 use Rattle.stopped_heap.proofs.growth.Growth.also.Goals as goal
 
 pub returns-in-Err-clause-fault : goal.returns-in-Err-clause-fault

@@ -2,12 +2,12 @@ use Rattle.std.proofs.Common.{◌≡◌, ℕ, ◌<◌, List, length, drop, sym, 
 use Rattle.std.proofs.lemmas.Grind.{common_steps}
 use Rattle.std.proofs.lemmas.List.{take_at}
 use Rattle.stopped_heap.specs.Ephemerons.{AreHeld}
-use Rattle.stopped_heap.specs.Growing.{IsGrownIn}
+use Rattle.rest_marks.specs.Growing.{IsGrownIn}
 use Rattle.stopped_heap.specs.Growth.{HasHeld, IsGrowthHeldFaultOf, IsSeenHeldFaultOf}
-use Rattle.stopped_heap.specs.Places.{found_in, Found}
-use Rattle.stopped_heap.specs.Surveys.{marks_of}
+use Rattle.rest_marks.specs.Places.{found_in, Found}
+use Rattle.rest_marks.specs.Surveys.{marks_of}
 use Rattle.stopped_heap.proofs.FoundIn.{grown-found, grown-of, has-held, has-held-fault, some-in}
-use Rattle.stopped_heap.proofs.Grown.{set-of}
+use Rattle.rest_marks.proofs.Grown.{set-of}
 use Rattle.stopped_heap.proofs.Held.{are-held}
 use Rattle.stopped_heap.proofs.growth.Growth.also_values.Goals as goal
 

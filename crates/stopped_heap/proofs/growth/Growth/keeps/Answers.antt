@@ -2,8 +2,8 @@ use Rattle.std.proofs.Common.{ℕ, List, Bool, ap, ◌∙◌}
 use Rattle.heap_layout.specs.Bits.{leads}
 use Rattle.heap_layout.specs.Heap.{is_value}
 use Rattle.heap_layout.specs.Values.{or_immediate}
-use Rattle.stopped_heap.specs.Places.{Found}
-use Rattle.stopped_heap.proofs.Heads.{heads-lead}
+use Rattle.rest_marks.specs.Places.{Found}
+use Rattle.rest_marks.proofs.Heads.{heads-lead}
 use Rattle.stopped_heap.proofs.growth.Growth.keeps.Goals as goal
 
 pub returns : goal.returns

@@ -1,7 +1,7 @@
 use Rattle.std.proofs.Common.{◌≡◌, length, ap, ◌∙◌}
 use Rattle.std.proofs.lemmas.Grind.{common_steps}
 use Rattle.std.proofs.Common.{arith}
-use Rattle.stopped_heap.specs.Places.{Found}
+use Rattle.rest_marks.specs.Places.{Found}
 use Rattle.stopped_heap.proofs.FoundIn.{kept-count}
 use Rattle.stopped_heap.proofs.growth.Growth.kept.Goals as goal
 

@@ -1,9 +1,9 @@
 use Rattle.std.proofs.Common.{◌*◌, ◌≤◌, length, sym, subst, List, ℕ, arith}
 use Rattle.mark_tables.specs.MarkBitmap.{AreOffsets}
-use Rattle.stopped_heap.specs.Starts.{AreStarts}
-use Rattle.stopped_heap.specs.Surveys.{told}
+use Rattle.rest_marks.specs.Starts.{AreStarts}
+use Rattle.rest_marks.specs.Surveys.{told}
 use Rattle.stopped_heap.proofs.FoundIn.{grown-found}
-use Rattle.stopped_heap.proofs.Grown.{marked-told, marked-indices}
+use Rattle.rest_marks.proofs.Grown.{marked-told, marked-indices}
 use Rattle.stopped_heap.proofs.growth.Growth.settle.Goals as goal
 
 pub invariant_of-result : goal.invariant_of-result

@@ -1,7 +1,7 @@
 use Rattle.std.proofs.Common.{◌≡◌, ℕ, ◌-◌, ◌≤◌, List, length, get_or, take, sym, ap, subst, ◌∙◌, arith, length-take}
 use Rattle.std.proofs.lemmas.List.{get_or-take}
-use Rattle.stopped_heap.specs.Lanes.{Laned, AreLanedIn}
-use Rattle.stopped_heap.specs.Meeting.{AreMet}
+use Rattle.rest_marks.specs.Lanes.{Laned, AreLanedIn}
+use Rattle.rest_marks.specs.Meeting.{AreMet}
 use Rattle.stopped_heap.proofs.LanesJoined.{looked-wider, once-take}
 use Rattle.stopped_heap.proofs.lane.Lane.give.Goals as goal
 

@@ -2,10 +2,10 @@ use Rattle.std.proofs.Common.{rules, ◌≡◌, ℕ, ◌+◌, List, length, sym,
 use Rattle.std.proofs.lemmas.Bool.{both_ways}
 use Rattle.heap_layout.specs.declared.edition.Edition.{Edition}
 use Rattle.heap_layout.specs.Bits.{bit}
-use Rattle.stopped_heap.specs.LaneParts.{joined_met, AreBoth, AreDisjoint}
-use Rattle.stopped_heap.specs.Lanes.{Laned, AreLanedIn}
-use Rattle.stopped_heap.specs.Looks.{AreLookedAt}
-use Rattle.stopped_heap.specs.Meeting.{AreOnce}
+use Rattle.rest_marks.specs.LaneParts.{joined_met, AreBoth, AreDisjoint}
+use Rattle.rest_marks.specs.Lanes.{Laned, AreLanedIn}
+use Rattle.rest_marks.specs.Looks.{AreLookedAt}
+use Rattle.rest_marks.specs.Meeting.{AreOnce}
 use Rattle.stopped_heap.proofs.LanesJoined.{joined-are-met, joined-long, joined-looked, joined-once}
 use Rattle.stopped_heap.proofs.lane.Lane.join.Goals as goal
 

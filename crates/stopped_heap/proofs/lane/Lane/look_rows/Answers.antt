@@ -2,8 +2,8 @@ use Rattle.std.proofs.Common.{◌≡◌, ℕ, List, length, drop, sym, subst, ar
 use Rattle.std.proofs.lemmas.Grind.{common_steps}
 use Rattle.std.proofs.lemmas.Result.{err_from_is_err_and}
 use Rattle.std.proofs.lemmas.List.{take_at}
-use Rattle.stopped_heap.specs.Lanes.{laned, Laned, AreLanedIn, IsLaneAfterRows, IsLaneRowsFault}
-use Rattle.stopped_heap.specs.Looks.{rows_of, AreLookedAt, AreRowsAt}
+use Rattle.rest_marks.specs.Lanes.{laned, Laned, AreLanedIn, IsLaneAfterRows, IsLaneRowsFault}
+use Rattle.rest_marks.specs.Looks.{rows_of, AreLookedAt, AreRowsAt}
 use Rattle.stopped_heap.proofs.lane.Lane.look_rows.Goals as goal
 
 pub invariant_of-result : goal.invariant_of-result

@@ -1,9 +1,9 @@
 use Rattle.std.proofs.Common.{◌≡◌, List, ℕ, length, drop, sym, subst, arith}
 use Rattle.std.proofs.lemmas.Grind.{common_steps}
 use Rattle.std.proofs.lemmas.List.{take_at}
-use Rattle.stopped_heap.specs.Lanes.{Laned, AreLanedIn, IsLedTo, IsLedToUnknown, IsTold}
-use Rattle.stopped_heap.specs.Marks.{AllKept}
-use Rattle.stopped_heap.proofs.Laned.{looked-told, told-longer}
+use Rattle.rest_marks.specs.Lanes.{Laned, AreLanedIn, IsLedTo, IsLedToUnknown, IsTold}
+use Rattle.rest_marks.specs.Marks.{AllKept}
+use Rattle.rest_marks.proofs.Laned.{looked-told, told-longer}
 use Rattle.stopped_heap.proofs.lane.Lane.meet.Goals as goal
 
 pub returns-in-Err-Memory-clause-fault : goal.returns-in-Err-Memory-clause-fault

@@ -3,7 +3,7 @@ use Rattle.std.proofs.lemmas.Bool.{cases_lt}
 use Rattle.std.proofs.lemmas.Grind.{common_steps}
 use Rattle.std.proofs.lemmas.List.{take_at}
 use Rattle.heap_layout.specs.Bits.{bit}
-use Rattle.stopped_heap.specs.Lanes.{Laned, AreLanedIn}
+use Rattle.rest_marks.specs.Lanes.{Laned, AreLanedIn}
 use Rattle.stopped_heap.proofs.LanesJoined.{at-stay, looked-wider}
 use Rattle.stopped_heap.proofs.lane.Lane.take.Goals as goal
 

@@ -1,6 +1,6 @@
 use Rattle.std.proofs.Common.{◌≡◌, ℕ, ◌+◌, ◌-◌, ◌<◌, List, [], ◌∷◌, ◌++◌, length, get_or, set, take, drop, append_assoc, min, sym, ap, subst, ◌∙◌, arith, length-take, length-drop}
 use Rattle.std.proofs.lemmas.List.{drop_more, get_or_default, get_or-drop, set-append_right, take_more}
-use Rattle.stopped_heap.specs.Lanes.{Laned}
+use Rattle.rest_marks.specs.Lanes.{Laned}
 use Rattle.stopped_heap.proofs.lane.Lane.waiting_in.Goals as goal
 
 -- one more number copied

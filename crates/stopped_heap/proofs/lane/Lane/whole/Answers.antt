@@ -1,6 +1,6 @@
 use Rattle.std.proofs.Common.{◌≡◌, ℕ, true, List, refl, sym, subst}
 use Rattle.heap_layout.specs.Bits.{bit}
-use Rattle.stopped_heap.specs.Lanes.{Laned, AreLanedIn}
+use Rattle.rest_marks.specs.Lanes.{Laned, AreLanedIn}
 use Rattle.stopped_heap.proofs.LanesJoined.{looked-wider}
 use Rattle.stopped_heap.proofs.lane.Lane.whole.Goals as goal
 

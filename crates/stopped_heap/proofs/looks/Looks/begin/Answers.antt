@@ -1,4 +1,4 @@
-use Rattle.stopped_heap.proofs.Queued.{once-none}
+use Rattle.rest_marks.proofs.Queued.{once-none}
 use Rattle.stopped_heap.proofs.looks.Looks.begin.Goals as goal
 
 pub meet_all-requires-clause-once : goal.meet_all-requires-clause-once

@@ -1,5 +1,5 @@
 use Rattle.std.proofs.Common.{List, ℕ, subst}
-use Rattle.stopped_heap.specs.Checks.{AreOthers}
+use Rattle.rest_marks.specs.Checks.{AreOthers}
 use Rattle.stopped_heap.proofs.looks.Looks.check.Goals as goal
 
 pub ask_whole-requires-clause-others : goal.ask_whole-requires-clause-others

@@ -3,8 +3,8 @@ use Rattle.std.proofs.lemmas.Grind.{common_steps}
 use Rattle.std.proofs.lemmas.Result.{err_from_is_err_and}
 use Rattle.std.proofs.lemmas.List.{get_or_default, take_at}
 use Rattle.reachability.proofs.Queues.{has-at}
-use Rattle.stopped_heap.specs.LookFaults.{IsFieldsFault, IsLookFault, IsPlacingFault}
-use Rattle.stopped_heap.specs.Looks.{Looking, IsAt, AreLookedAt, AreLooked}
+use Rattle.rest_marks.specs.LookFaults.{IsFieldsFault, IsLookFault, IsPlacingFault}
+use Rattle.rest_marks.specs.Looks.{Looking, IsAt, AreLookedAt, AreLooked}
 use Rattle.stopped_heap.proofs.looks.Looks.look.Goals as goal
 
 pub look_at-requires-clause-inside : goal.look_at-requires-clause-inside

@@ -4,8 +4,8 @@ use Rattle.std.proofs.lemmas.Grind.{common_steps}
 use Rattle.std.proofs.lemmas.Result.{err_from_is_err_and}
 use Rattle.std.proofs.lemmas.List.{take_at}
 use Rattle.heap_layout.specs.Bits.{bit}
-use Rattle.stopped_heap.specs.LookFaults.{IsFieldsFault}
-use Rattle.stopped_heap.specs.Looks.{Looking, AreLookedAt, AreLooked, AreSameBut}
+use Rattle.rest_marks.specs.LookFaults.{IsFieldsFault}
+use Rattle.rest_marks.specs.Looks.{Looking, AreLookedAt, AreLooked, AreSameBut}
 use Rattle.stopped_heap.proofs.looks.Looks.look_again.Goals as goal
 
 pub look_again_at-requires-clause-inside : goal.look_again_at-requires-clause-inside

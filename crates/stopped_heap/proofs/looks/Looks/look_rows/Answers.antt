@@ -1,7 +1,7 @@
 use Rattle.std.proofs.Common.{◌≡◌, ℕ, List, length, drop, sym, subst, arith}
 use Rattle.std.proofs.lemmas.Grind.{common_steps}
 use Rattle.std.proofs.lemmas.List.{take_at}
-use Rattle.stopped_heap.specs.Looks.{rows_of, Looking, AreLookedAt, AreLooked, AreRowsAt}
+use Rattle.rest_marks.specs.Looks.{rows_of, Looking, AreLookedAt, AreLooked, AreRowsAt}
 use Rattle.stopped_heap.proofs.looks.Looks.look_rows.Goals as goal
 
 pub invariant_of-result : goal.invariant_of-result

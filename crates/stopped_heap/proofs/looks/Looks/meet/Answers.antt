@@ -2,8 +2,8 @@ use Rattle.std.proofs.Common.{◌≡◌, ◌-◌, ◌<◌, ◌≤◌, length, ge
 use Rattle.std.proofs.lemmas.Bool.{cases_lt}
 use Rattle.std.proofs.lemmas.Grind.{common_steps}
 use Rattle.std.proofs.lemmas.List.{take_at}
-use Rattle.stopped_heap.specs.Looks.{met_by, Looking, AreLooked}
-use Rattle.stopped_heap.proofs.LookedAt.{looked-met, places-kept}
+use Rattle.rest_marks.specs.Looks.{met_by, Looking, AreLooked}
+use Rattle.rest_marks.proofs.LookedAt.{looked-met, places-kept}
 use Rattle.stopped_heap.proofs.looks.Looks.meet.Goals as goal
 
 pub returns-in-Err-Memory-clause-fault : goal.returns-in-Err-Memory-clause-fault

@@ -1,7 +1,7 @@
 use Rattle.std.proofs.Common.{get_or, sym, subst, ◌∙◌}
 use Rattle.std.proofs.lemmas.List.{get_or_default}
 use Rattle.heap_layout.specs.Heap.{IsValue}
-use Rattle.stopped_heap.proofs.Placing.{value-found, led-seen}
+use Rattle.rest_slide.proofs.Placing.{value-found, led-seen}
 use Rattle.stopped_heap.proofs.places.Places.forward_roots.Goals as goal
 
 pub returns-in-Err-clause-stray : goal.returns-in-Err-clause-stray

@@ -1,5 +1,5 @@
 use Rattle.std.proofs.Common.{◌∙◌}
-use Rattle.stopped_heap.proofs.Placing.{led-seen}
+use Rattle.rest_slide.proofs.Placing.{led-seen}
 use Rattle.stopped_heap.proofs.places.Places.forward_weak.Goals as goal
 
 pub returns : goal.returns

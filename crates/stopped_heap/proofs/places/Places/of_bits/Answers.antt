@@ -3,10 +3,10 @@ use Rattle.std.proofs.lemmas.List.{get_or_default}
 use Rattle.heap_layout.specs.declared.edition.Edition.{Edition}
 use Rattle.heap_layout.specs.Heap.{IsValue}
 use Rattle.heap_layout.specs.Values.{or_immediate}
-use Rattle.stopped_heap.specs.Marks.{AllKept}
-use Rattle.stopped_heap.specs.Surveys.{marks_of}
+use Rattle.rest_marks.specs.Marks.{AllKept}
+use Rattle.rest_marks.specs.Surveys.{marks_of}
 use Rattle.stopped_heap.proofs.GivenBits.{tables-there, tables-found}
-use Rattle.stopped_heap.proofs.Heads.{heads-lead}
+use Rattle.rest_marks.proofs.Heads.{heads-lead}
 use Rattle.stopped_heap.proofs.places.Places.of_bits.Goals as goal
 
 -- a word that was kept is an immediate, null, or the address of a marked object

@@ -2,10 +2,10 @@ use Rattle.std.proofs.Common.{◌≡◌, ◌+◌, ◌<◌, ◌≤◌, length, ge
 use Rattle.std.proofs.lemmas.Grind.{same_number_lists}
 use Rattle.std.proofs.lemmas.List.{length-map, get_or-take, get_or-drop}
 use Rattle.std.proofs.lemmas.Result.{on_ok_weaker, IfErr-weaker}
-use Rattle.stopped_heap.specs.Places.{found_in, word_now, words_now, Found, IsAsFound, IsSlideFault}
-use Rattle.stopped_heap.specs.declared.fault.SlideFault.{SlideFault}
-use Rattle.stopped_heap.specs.declared.fault.SlideFault.TheVariants as slide
-use Rattle.stopped_heap.proofs.Placing.{found-seen}
+use Rattle.rest_marks.specs.Places.{found_in, word_now, words_now, Found, IsAsFound, IsSlideFault}
+use Rattle.rest_marks.specs.declared.fault.SlideFault.{SlideFault}
+use Rattle.rest_marks.specs.declared.fault.SlideFault.TheVariants as slide
+use Rattle.rest_slide.proofs.Placing.{found-seen}
 use Rattle.stopped_heap.proofs.places.Places.try_slide.Goals as goal
 
 pub returns-clause-slid : goal.returns-clause-slid

@@ -7,9 +7,9 @@ use Rattle.mark_tables.specs.MarkBitmap.{set_bits}
 use Rattle.mark_tables.specs.LiveWords.{live_below}
 use Rattle.page_plan.specs.Sliding.{forward_value}
 use Rattle.reachability.specs.Queue.{is_address}
-use Rattle.stopped_heap.specs.Settled.{lowered}
-use Rattle.stopped_heap.specs.Surveys.{heap_of}
-use Rattle.stopped_heap.proofs.Settling.{forward-found, forward-lost}
+use Rattle.rest_slide.specs.Settled.{lowered}
+use Rattle.rest_marks.specs.Surveys.{heap_of}
+use Rattle.rest_slide.proofs.Settling.{forward-found, forward-lost}
 use Rattle.stopped_heap.proofs.survey.Survey.forward.Goals as goal
 
 pub returns-then-not-is_kept : goal.returns-then-not-is_kept

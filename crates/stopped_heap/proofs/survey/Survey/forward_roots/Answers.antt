@@ -1,7 +1,7 @@
 use Rattle.std.proofs.Common.{ap, get_or, sym, subst, ◌∙◌}
 use Rattle.std.proofs.lemmas.List.{get_or_default}
 use Rattle.heap_layout.specs.Heap.{IsValue}
-use Rattle.stopped_heap.specs.Surveys.{heap_of}
+use Rattle.rest_marks.specs.Surveys.{heap_of}
 use Rattle.stopped_heap.proofs.Viewed.{value-seen, settled-seen}
 use Rattle.stopped_heap.proofs.survey.Survey.forward_roots.Goals as goal
 

@@ -1,5 +1,5 @@
 use Rattle.std.proofs.Common.{ap, ◌∙◌}
-use Rattle.stopped_heap.specs.Surveys.{heap_of}
+use Rattle.rest_marks.specs.Surveys.{heap_of}
 use Rattle.stopped_heap.proofs.Viewed.{settled-seen}
 use Rattle.stopped_heap.proofs.survey.Survey.forward_weak.Goals as goal
 

@@ -1,7 +1,7 @@
 use Rattle.std.proofs.Common.{◌≡◌, ℕ, ◌+◌, ◌*◌, ◌≤◌, true, List, length, sym, ap, subst, ◌∙◌, arith}
 use Rattle.heap_layout.specs.Bits.{bit}
 use Rattle.heap_layout.proofs.Bounds.{words_most}
-use Rattle.stopped_heap.specs.Meeting.{AreMet}
+use Rattle.rest_marks.specs.Meeting.{AreMet}
 use Rattle.stopped_heap.proofs.Listing.{tables-grown, tables-inside}
 use Rattle.stopped_heap.proofs.survey.Survey.grow.Goals as goal
 

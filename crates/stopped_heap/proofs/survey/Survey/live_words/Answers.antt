@@ -1,7 +1,7 @@
 use Rattle.std.proofs.Common.{◌≡◌, ℕ, length, get_or, refl, ap, ◌∙◌, arith}
 use Rattle.std.proofs.lemmas.Grind.{common_steps}
 use Rattle.std.proofs.lemmas.List.{get_or_default}
-use Rattle.stopped_heap.specs.Surveys.{heap_of}
+use Rattle.rest_marks.specs.Surveys.{heap_of}
 use Rattle.stopped_heap.proofs.Viewed.{words-seen}
 use Rattle.stopped_heap.proofs.survey.Survey.live_words.Goals as goal
 

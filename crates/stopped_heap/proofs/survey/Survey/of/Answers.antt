@@ -1,5 +1,5 @@
 use Rattle.std.proofs.Common.{List, ℕ, subst, arith}
-use Rattle.stopped_heap.specs.Starts.{AreStarts}
+use Rattle.rest_marks.specs.Starts.{AreStarts}
 use Rattle.stopped_heap.proofs.survey.Survey.of.Goals as goal
 
 pub invariant_of-result : goal.invariant_of-result

@@ -3,8 +3,8 @@ use Rattle.std.proofs.lemmas.Grind.{common_steps}
 use Rattle.std.proofs.lemmas.List.{take_at}
 use Rattle.heap_layout.specs.Limits.{most_words, most_roots}
 use Rattle.mark_tables.specs.MarkBitmap.{AreOffsets}
-use Rattle.stopped_heap.proofs.Lent.{lent-sound, told-sound, told-indices}
-use Rattle.stopped_heap.proofs.Refusing.{marks-refused}
+use Rattle.rest_marks.proofs.Lent.{lent-sound, told-sound, told-indices}
+use Rattle.rest_marks.proofs.Refusing.{marks-refused}
 use Rattle.stopped_heap.proofs.survey.Survey.of_marks.Goals as goal
 
 pub returns-in-Err-take_marks-clause-fault : goal.returns-in-Err-take_marks-clause-fault

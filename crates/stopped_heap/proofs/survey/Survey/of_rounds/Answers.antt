@@ -3,7 +3,7 @@ use Rattle.std.proofs.lemmas.Grind.{common_steps}
 use Rattle.std.proofs.lemmas.List.{take_at}
 use Rattle.heap_layout.specs.Limits.{most_words, most_roots}
 use Rattle.mark_tables.specs.MarkBitmap.{AreOffsets}
-use Rattle.stopped_heap.specs.Starts.{AreStarts}
+use Rattle.rest_marks.specs.Starts.{AreStarts}
 use Rattle.stopped_heap.proofs.Lasting.{all-reached, all-sound, all-told, all-indices}
 use Rattle.stopped_heap.proofs.survey.Survey.of_rounds.Goals as goal
 

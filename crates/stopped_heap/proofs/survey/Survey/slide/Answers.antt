@@ -3,9 +3,9 @@ use Rattle.std.proofs.lemmas.Grind.{same_number_lists}
 use Rattle.std.proofs.lemmas.List.{get_or-take, get_or-drop}
 use Rattle.heap_layout.specs.Heap.{Heap, live}
 use Rattle.page_plan.specs.Sliding.{live_words}
-use Rattle.stopped_heap.specs.Settled.{settled_words}
-use Rattle.stopped_heap.specs.Surveys.{heap_of, told}
-use Rattle.stopped_heap.proofs.Settling.{settled-all}
+use Rattle.rest_slide.specs.Settled.{settled_words}
+use Rattle.rest_marks.specs.Surveys.{heap_of, told}
+use Rattle.rest_slide.proofs.Settling.{settled-all}
 use Rattle.stopped_heap.proofs.Viewed.{words-seen}
 use Rattle.stopped_heap.proofs.survey.Survey.slide.Goals as goal
 

@@ -2,7 +2,7 @@ use Rattle.std.proofs.Common.{◌≡◌, ◌≢◌, ◌^◌, ◌≤◌, ◌++◌
 use Rattle.std.proofs.lemmas.List.{take_at}
 use Rattle.heap_layout.proofs.Bounds.{words_most}
 use Rattle.mark_tables.specs.MarkBitmap.{vec_items}
-use Rattle.stopped_heap.specs.declared.fault.SurveyFault.TheVariants as survey
+use Rattle.rest_marks.specs.declared.fault.SurveyFault.TheVariants as survey
 use Rattle.young_heap.proofs.Beginning.{all-collected}
 use Rattle.young_heap.proofs.Storing.{none-old, none-asked}
 use Rattle.young_heap.proofs.Watermarks.{fault-all, fault-few, other-tables}

@@ -2,7 +2,7 @@ use Rattle.std.proofs.Common.{◌≡◌, ◌≢◌, ℕ, ◌^◌, ◌≤◌, min
 use Rattle.std.proofs.lemmas.List.{take_at}
 use Rattle.heap_layout.specs.Bits.{bit}
 use Rattle.heap_layout.proofs.Bounds.{words_most}
-use Rattle.stopped_heap.specs.declared.fault.SurveyFault.TheVariants as survey
+use Rattle.rest_marks.specs.declared.fault.SurveyFault.TheVariants as survey
 use Rattle.young_heap.specs.Cards.{is_dirty}
 use Rattle.young_heap.specs.Tables.{IsFaultBy}
 use Rattle.young_heap.specs.Young.{is_below_led}

@@ -4,7 +4,7 @@ use Rattle.std.proofs.lemmas.List.Sorted.{IsNonDecreasingBy-from_sort}
 use Rattle.heap_layout.specs.Bits.{bit}
 use Rattle.heap_layout.proofs.Bounds.{words_most}
 use Rattle.reachability.specs.Queue.{has}
-use Rattle.stopped_heap.specs.declared.fault.SurveyFault.TheVariants as survey
+use Rattle.rest_marks.specs.declared.fault.SurveyFault.TheVariants as survey
 use Rattle.young_heap.specs.Listing.{AreFields, IsField}
 use Rattle.young_heap.specs.Tables.{IsCollectedBy, IsListFault}
 use Rattle.young_heap.specs.Young.{is_below_led, AreOld, AreRemembered}

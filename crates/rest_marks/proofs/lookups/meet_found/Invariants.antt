@@ -1,0 +1,9 @@
+use Rattle.std.proofs.Common.{◌≡◌, length}
+use Rattle.rest_marks.specs.Rounds.{AreReaching}
+use Rattle.rest_marks.proofs.lookups.meet_found.Given as goal
+
+abbrev pub invariant-loop-k : goal.invariant-loop-k
+invariant-loop-k l = record {
+  met : AreReaching l.edition l.words l.roots l.queue.items l.heads;
+  long : length l.heads ≡ length l.fn.heads;
+}

@@ -1,0 +1,11 @@
+pub mod Settling
+pub mod Filling
+pub mod Slides
+pub mod Targets
+pub mod Moving
+pub mod Dense
+pub mod SlidingDown
+pub mod Led
+pub mod Placing
+pub mod Tried
+pub mod Ended

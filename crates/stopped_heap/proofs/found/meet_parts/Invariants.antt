@@ -1,9 +1,0 @@
-use Rattle.std.proofs.Common.{◌≡◌, length}
-use Rattle.stopped_heap.specs.Rounds.{AreReaching}
-use Rattle.stopped_heap.proofs.found.meet_parts.Given as goal
-
-abbrev pub invariant-loop-part : goal.invariant-loop-part
-invariant-loop-part l = record {
-  met : AreReaching l.edition l.words l.roots l.queue.items l.heads;
-  long : length l.heads ≡ length l.fn.heads;
-}

@@ -1,6 +1,0 @@
-use Rattle.std.proofs.Common.{◌*◌}
-use Rattle.stopped_heap.specs.Kept.{AreKeptIn}
-use Rattle.stopped_heap.proofs.kept.are_all_kept.Given as goal
-
-abbrev pub invariant-loop-part : goal.invariant-loop-part
-invariant-loop-part g l = AreKeptIn l.fn.edition l.words l.heads 0 (64 * l.next)

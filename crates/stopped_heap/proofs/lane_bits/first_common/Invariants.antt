@@ -1,6 +1,0 @@
-use Rattle.std.proofs.Common.{◌≡◌, ℕ, ◌*◌, ◌<◌, true, false}
-use Rattle.heap_layout.specs.Bits.{bit}
-use Rattle.stopped_heap.proofs.lane_bits.first_common.Given as goal
-
-abbrev pub invariant-loop-b : goal.invariant-loop-b
-invariant-loop-b l = (i : ℕ) → i < 64 * l.b → bit l.one i ≡ true → bit l.other i ≡ false

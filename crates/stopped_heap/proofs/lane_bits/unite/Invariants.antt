@@ -1,5 +1,0 @@
-use Rattle.stopped_heap.proofs.LaneSets.{AreUnited}
-use Rattle.stopped_heap.proofs.lane_bits.unite.Given as goal
-
-abbrev pub invariant-loop-b : goal.invariant-loop-b
-invariant-loop-b l = AreUnited l.fn.bits l.other l.b l.bits

@@ -1,6 +1,0 @@
-use Rattle.stopped_heap.proofs.Leading.{references-lead}
-use Rattle.stopped_heap.proofs.rounds.follow_object.Goals as goal
-
-pub meet_led-requires-clause-lead : goal.meet_led-requires-clause-lead
-meet_led-requires-clause-lead c =
-    references-lead c.args.edition c.args.words.now c.args.roots.now c.references-from.result.now c.args.i c.requires.reached c.references-from.ensures

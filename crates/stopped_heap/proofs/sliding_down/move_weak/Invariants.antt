@@ -1,8 +1,0 @@
-use Rattle.mark_tables.specs.MarkBitmap.{set_bits}
-use Rattle.stopped_heap.specs.Looking.{kept_by}
-use Rattle.stopped_heap.proofs.Moving.{IsMoved}
-use Rattle.stopped_heap.proofs.sliding_down.move_weak.Given as goal
-
--- the first k weak words are moved
-abbrev pub invariant-loop-k : goal.invariant-loop-k
-invariant-loop-k l = IsMoved (kept_by l.edition l.heads (set_bits l.bits)) l.fn.words l.from l.to l.k l.words
