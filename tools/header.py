@@ -1,6 +1,6 @@
-"""Compares compressor.h with the exports of compressor_c, as shell.c calls them, and with what comp_handle answers: the
-same names, parameters (each handle of its kind) and results; structs with the same fields; the same statuses, kinds,
-limits and version. Of shell.c it sees that each function hands on its own arguments, in their order. The text of the
+"""Compares compressor.h with the exports of compressor_c, as shell.c calls them, and with what the crates of handles
+answer: the same names, parameters (each handle of its kind) and results; structs with the same fields; the same
+statuses, kinds, limits and version. Of shell.c it sees that each function hands on its own arguments, in their order. The text of the
 version is no export: it alone is declared in version_text.c.
 
 usage: header.py CRATES
@@ -9,6 +9,8 @@ import re
 import sys
 from pathlib import Path
 
+# The crates whose calls the exports make.
+HANDLES = ["handle_base", "file_handle", "flip_handle", "rest_handle", "beside_handle"]
 TYPES = {
     "&mut Written": ["compressor_entry *"],
     "&mut MutatorFacts": ["compressor_mutator_facts *"],
@@ -179,24 +181,24 @@ def name_of(variant):
 
 def named(crate):
     """The statuses by their names: as the code has them, and as the specs do; but DONE, which is 0 in both."""
-    consts = re.findall(r"^pub\(crate\) const (\w+): u32 = (\d+);", (crate / "src/status.rt").read_text(), flags=re.M)
+    consts = re.findall(r"^pub const (\w+): u32 = (\d+);", (crate / "src/status.rt").read_text(), flags=re.M)
     abbrevs = re.findall(r"^(\w+) = (\d+)$", (crate / "specs/Statuses.antt").read_text(), flags=re.M)
     yield "src/status.rt", {name: int(n) for name, n in consts}
     yield "specs/Statuses.antt", {name.upper(): int(n) for name, n in abbrevs}
 
 
-def compare_statuses(statuses, crate, answers):
+def compare_statuses(statuses, crates, answers):
     """What differs in the names of statuses and their numbers, in their use, or in which fault has which."""
     want = {**statuses, **NOT_IN_C}
     want.pop("DONE")
-    for own, have in named(crate):
+    for own, have in named(crates / HANDLES[0]):
         for name in sorted({*have, *want}):
             if have.get(name) != want.get(name):
-                yield f"{name}: the header has {want.get(name)}, {own} of comp_handle has {have.get(name)}"
+                yield f"{name}: the header has {want.get(name)}, {own} of {HANDLES[0]} has {have.get(name)}"
     used = {*re.findall(r"\bstatus::(\w+)", answers)}
     if used != {*want}:
         yield f"statuses that are no answer, or have no name: {sorted(used ^ {*want})}"
-    specs = "".join(re.sub(r"--.*", "", it.read_text()) for it in sorted((crate / "specs").glob("*.antt")))
+    specs = "".join(re.sub(r"--.*", "", it.read_text()) for own in HANDLES for it in sorted((crates / own / "specs").glob("*.antt")))
     by_number = re.findall(r"Answer::(?:bare|two)\(\s*\d+|place\([^;{}]*, \d+\)|\b(?:bare|two|IsPlace) [1-9]\d*", answers + specs)
     if by_number:
         yield f"statuses that stand by their number: {sorted({*by_number})}"
@@ -216,7 +218,7 @@ def compare(crates):
     raw = (crates / "compressor_c/include/compressor.h").read_text()
     text = bare(raw)
     exports = "".join(it.read_text() for it in sorted((crates / "compressor_c/src").glob("*.rt")))
-    answers = "".join(it.read_text() for it in sorted((crates / "comp_handle/src").glob("*.rt")))
+    answers = "".join(it.read_text() for own in HANDLES for it in sorted((crates / own / "src").glob("*.rt")))
     header = declared(text)
     given, wrong = through(exported(exports), bare((crates / "compressor_c/shell/shell.c").read_text()))
     yield from wrong
@@ -234,7 +236,7 @@ def compare(crates):
             yield f"{name}: the header has {have}, {own} has {in_rattle.get(own)}"
     enum = re.search(r"typedef enum compressor_status \{(.*?)\}", text, flags=re.S).group(1)
     statuses = {name: int(n) for name, n in re.findall(r"COMPRESSOR_(\w+) = (\d+)", enum)}
-    yield from compare_statuses(statuses, crates / "comp_handle", answers)
+    yield from compare_statuses(statuses, crates, answers)
     texts = re.findall(r"COMPRESSOR_CASE_\((\w+)\)(?! case)", text)
     if texts != list(statuses):
         yield f"texts of statuses: {sorted({*texts} ^ {*statuses})}, or their order"

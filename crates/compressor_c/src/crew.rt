@@ -1,11 +1,11 @@
 //! Exports that act on a crew.
 ghost use Rattle.std.specs.Prelude.{◌≡◌, None};
-ghost use Rattle.comp_handle.specs.Crewing.{Takes};
-ghost use Rattle.comp_handle.specs.Joining.{Gives, IsToldFrom};
-ghost use Rattle.comp_handle.specs.HandleKinds.{crew_in, Turns};
-ghost use Rattle.comp_handle.specs.Turning.{Finishes, IsUnfinished};
+ghost use Rattle.flip_handle.specs.Crewing.{Takes};
+ghost use Rattle.flip_handle.specs.Joining.{Gives, IsToldFrom};
+ghost use Rattle.handle_base.specs.HandleKinds.{crew_in, Turns};
+ghost use Rattle.flip_handle.specs.Turning.{Finishes, IsUnfinished};
 
-use comp_handle::{Answer, Handle};
+use handle_base::{Answer, Handle};
 use std::alloc::Global;
 
 /// Takes a mutator out of its crew.
@@ -17,7 +17,7 @@ pub extern "C" fn compressor_crew_take(
 ) -> Answer
     ensures { Takes crew.old.kept crew.new.kept mutator.old.kept mutator.new.kept result }
 {
-    comp_handle::take_member(alloc, crew, mutator)
+    flip_handle::take_member(alloc, crew, mutator)
 }
 
 /// Hands a mutator back to its crew. Its handle is empty then.
@@ -30,7 +30,7 @@ pub extern "C" fn compressor_crew_give(
     requires { IsToldFrom crew.old.kept mutator.old.kept }
     ensures { Gives crew.old.kept crew.new.kept mutator.old.kept mutator.new.kept result }
 {
-    comp_handle::give_member(alloc, crew, mutator)
+    flip_handle::give_member(alloc, crew, mutator)
 }
 
 /// Finishes a crew whose mutators were all handed back. The handle of the end keeps the finished heap then, and that of
@@ -43,7 +43,7 @@ pub extern "C" fn compressor_crew_finish(
 ) -> Answer
     ensures { Turns crew_in Finishes IsUnfinished crew.old.kept crew.new.kept end.old.kept end.new.kept result }
 {
-    comp_handle::finish_crew(alloc, crew, end)
+    flip_handle::finish_crew(alloc, crew, end)
 }
 
 /// Drops a crew with the mutators that are in it. Its handle is empty then.
@@ -51,5 +51,5 @@ pub extern "C" fn compressor_crew_finish(
 pub extern "C" fn compressor_crew_drop(alloc: Global, crew: &mut Handle)
     ensures { crew.new.kept ≡ None }
 {
-    comp_handle::drop_kept(alloc, crew);
+    flip_handle::drop_kept(alloc, crew);
 }

@@ -1,15 +1,16 @@
 //! Exports that act on a finished cycle.
 ghost use Rattle.std.specs.Prelude.{◌≡◌, None};
-ghost use Rattle.comp_handle.specs.Copying.{CopiesEndRoots};
-ghost use Rattle.comp_handle.specs.Dumping.{WritesDump};
-ghost use Rattle.comp_handle.specs.Ending.{pages_at_end, CopiesEntry, CopiesPage, Tells};
-ghost use Rattle.comp_handle.specs.Facts.{CountsEnd};
-ghost use Rattle.comp_handle.specs.HandleKinds.{end_in, Asks, Turns};
-ghost use Rattle.comp_handle.specs.Settling.{RestsAt};
-ghost use Rattle.comp_handle.specs.Turning.{Follows, FollowsReached, IsUnfollowed, IsUnreached};
-ghost use Rattle.comp_handle.specs.declared.ending.Question.TheVariants as questions;
+ghost use Rattle.handle_base.specs.Copying.{CopiesEndRoots};
+ghost use Rattle.file_handle.specs.Dumping.{WritesDump};
+ghost use Rattle.flip_handle.specs.Ending.{pages_at_end, CopiesEntry, CopiesPage, Tells};
+ghost use Rattle.flip_handle.specs.Facts.{CountsEnd};
+ghost use Rattle.handle_base.specs.HandleKinds.{end_in, Asks, Turns};
+ghost use Rattle.flip_handle.specs.Settling.{RestsAt};
+ghost use Rattle.flip_handle.specs.Turning.{Follows, FollowsReached, IsUnfollowed, IsUnreached};
+ghost use Rattle.flip_handle.specs.declared.ending.Question.TheVariants as questions;
 
-use comp_handle::{Answer, EndFacts, Handle, Question, Written};
+use flip_handle::{EndFacts, Question, Written};
+use handle_base::{Answer, Handle};
 use std::alloc::Global;
 
 /// Copies the counts of a finished cycle.
@@ -22,7 +23,7 @@ pub extern "C" fn compressor_end_facts_of(
     ensures same { end.new.kept ≡ end.old.kept }
     ensures counts { Asks 0 end_in (CountsEnd facts.new) (facts.new ≡ facts.old) end.old.kept result }
 {
-    comp_handle::end_facts(alloc, end, facts)
+    flip_handle::end_facts(alloc, end, facts)
 }
 
 /// Copies the 64 words of a page of a finished heap.
@@ -36,7 +37,7 @@ pub extern "C" fn compressor_end_page(
     ensures same { end.new.kept ≡ end.old.kept }
     ensures copies { Asks 0 end_in (λ e. CopiesPage page (pages_at_end e) out.old out.new) (out.new ≡ out.old) end.old.kept result }
 {
-    comp_handle::page_words(alloc, end, page, out)
+    flip_handle::page_words(alloc, end, page, out)
 }
 
 /// Copies an entry of the journal of a page of a finished heap.
@@ -51,7 +52,7 @@ pub extern "C" fn compressor_end_entry(
     ensures same { end.new.kept ≡ end.old.kept }
     ensures copies { Asks 0 end_in (λ e. CopiesEntry page number (pages_at_end e) entry.old entry.new) (entry.new ≡ entry.old) end.old.kept result }
 {
-    comp_handle::page_entry(alloc, end, page, number, entry)
+    flip_handle::page_entry(alloc, end, page, number, entry)
 }
 
 /// Copies all roots of a finished heap.
@@ -60,7 +61,7 @@ pub extern "C" fn compressor_c_end_roots(alloc: Global, end: &mut Handle, out: &
     ensures same { end.new.kept ≡ end.old.kept }
     ensures copies { Asks 0 end_in (CopiesEndRoots out.old out.new) (out.new ≡ out.old) end.old.kept result }
 {
-    comp_handle::end_roots(alloc, end, out)
+    handle_base::end_roots(alloc, end, out)
 }
 
 /// How many pages a mutator of the cycle built.
@@ -69,7 +70,7 @@ pub extern "C" fn compressor_end_builds(alloc: Global, end: &mut Handle, mutator
     ensures same { end.new.kept ≡ end.old.kept }
     ensures looks { Asks 0 end_in (Tells (questions.EndBuildCount mutator)) (Unit {0}) end.old.kept result }
 {
-    comp_handle::ask(alloc, end, Question::EndBuildCount(mutator))
+    flip_handle::ask(alloc, end, Question::EndBuildCount(mutator))
 }
 
 /// The page that a mutator of the cycle built as the one with this number.
@@ -83,7 +84,7 @@ pub extern "C" fn compressor_end_build(
     ensures same { end.new.kept ≡ end.old.kept }
     ensures looks { Asks 0 end_in (Tells (questions.EndBuild mutator number)) (Unit {0}) end.old.kept result }
 {
-    comp_handle::ask(alloc, end, Question::EndBuild(mutator, number))
+    flip_handle::ask(alloc, end, Question::EndBuild(mutator, number))
 }
 
 /// Makes the heap with which the next cycle begins, with these marks and these roots, to-space addresses of the
@@ -98,7 +99,7 @@ pub extern "C" fn compressor_c_end_next_by_marks(
 ) -> Answer
     ensures { Turns end_in (Follows roots.now marks.now) (IsUnfollowed roots.now marks.now) end.old.kept end.new.kept heap.old.kept heap.new.kept result }
 {
-    comp_handle::follow(alloc, end, marks, roots, heap)
+    flip_handle::follow(alloc, end, marks, roots, heap)
 }
 
 /// Makes the heap with which the next cycle begins, with these roots: exactly the objects are marked that they reach.
@@ -111,7 +112,7 @@ pub extern "C" fn compressor_c_end_next_by_roots(
 ) -> Answer
     ensures { Turns end_in (FollowsReached roots.now) (IsUnreached roots.now) end.old.kept end.new.kept heap.old.kept heap.new.kept result }
 {
-    comp_handle::follow_reached(alloc, end, roots, heap)
+    flip_handle::follow_reached(alloc, end, roots, heap)
 }
 
 /// Copies the words of all pages, and all roots, as a heap at rest.
@@ -125,7 +126,7 @@ pub extern "C" fn compressor_c_end_rest(
     ensures same { end.new.kept ≡ end.old.kept }
     ensures rests { Asks 0 end_in (RestsAt words.old words.new roots.old roots.new) ((words.new ≡ words.old) × (roots.new ≡ roots.old)) end.old.kept result }
 {
-    comp_handle::rest_end(alloc, end, words, roots)
+    flip_handle::rest_end(alloc, end, words, roots)
 }
 
 /// Copies the dump of a finished heap.
@@ -134,7 +135,7 @@ pub extern "C" fn compressor_c_end_write(alloc: Global, end: &mut Handle, out: &
     ensures same { end.new.kept ≡ end.old.kept }
     ensures copies { Asks 0 end_in (WritesDump out.old out.new) (out.new ≡ out.old) end.old.kept result }
 {
-    comp_handle::copy_dump_of(alloc, end, out)
+    file_handle::copy_dump_of(alloc, end, out)
 }
 
 /// Drops a finished cycle. Its handle is empty then.
@@ -142,5 +143,5 @@ pub extern "C" fn compressor_c_end_write(alloc: Global, end: &mut Handle, out: &
 pub extern "C" fn compressor_end_drop(alloc: Global, end: &mut Handle)
     ensures { end.new.kept ≡ None }
 {
-    comp_handle::drop_kept(alloc, end);
+    flip_handle::drop_kept(alloc, end);
 }

@@ -1,9 +1,9 @@
 //! Exports for a survey of a heap at rest that grows.
 ghost use Rattle.std.specs.Prelude.{◌≡◌, None};
-ghost use Rattle.comp_handle.specs.Growing.{BeginsGrowing, BeginsLent, GivesBack, Grows, GrowsByValues, IsNever, IsUnbegun, SaysKept, SettlesGrowing};
-ghost use Rattle.comp_handle.specs.HandleKinds.{growing_in, room_in, tables_in, Asks, Turns};
+ghost use Rattle.rest_handle.specs.Growing.{BeginsGrowing, BeginsLent, GivesBack, Grows, GrowsByValues, IsNever, IsUnbegun, SaysKept, SettlesGrowing};
+ghost use Rattle.handle_base.specs.HandleKinds.{growing_in, room_in, tables_in, Asks, Turns};
 
-use comp_handle::{Answer, Handle};
+use handle_base::{Answer, Handle};
 use std::alloc::Global;
 
 /// Begins a survey of these words, of this edition, 1 to 4, that has marked nothing.
@@ -16,7 +16,7 @@ pub extern "C" fn compressor_c_growing_begin(
 ) -> Answer
     ensures { BeginsGrowing edition words.now growing.old.kept growing.new.kept result }
 {
-    comp_handle::begin_growing(alloc, edition, words, growing)
+    rest_handle::begin_growing(alloc, edition, words, growing)
 }
 
 /// Begins such a survey by tables that were made before. The handle of the survey keeps it then, and that of the tables
@@ -31,7 +31,7 @@ pub extern "C" fn compressor_c_growing_begin_lent(
 ) -> Answer
     ensures { Turns tables_in (BeginsLent edition words.now) (IsUnbegun edition words.now) tables.old.kept tables.new.kept growing.old.kept growing.new.kept result }
 {
-    comp_handle::begin_growing_lent(alloc, tables, edition, words, growing)
+    rest_handle::begin_growing_lent(alloc, tables, edition, words, growing)
 }
 
 /// Marks what more roots reach.
@@ -44,7 +44,7 @@ pub extern "C" fn compressor_c_growing_also(
 ) -> Answer
     ensures { Grows words.now roots.now growing.old.kept growing.new.kept result }
 {
-    comp_handle::grow(alloc, growing, words, roots)
+    rest_handle::grow(alloc, growing, words, roots)
 }
 
 /// Keeps the values of ephemerons.
@@ -57,7 +57,7 @@ pub extern "C" fn compressor_c_growing_also_values(
 ) -> Answer
     ensures { GrowsByValues words.now ephemerons.now growing.old.kept growing.new.kept result }
 {
-    comp_handle::grow_by_values(alloc, growing, words, ephemerons)
+    rest_handle::grow_by_values(alloc, growing, words, ephemerons)
 }
 
 /// Whether a word is kept so far.
@@ -70,7 +70,7 @@ pub extern "C" fn compressor_growing_keeps(
     ensures same { growing.new.kept ≡ growing.old.kept }
     ensures says { Asks 0 growing_in (SaysKept value) (Unit {0}) growing.old.kept result }
 {
-    comp_handle::keeps(alloc, growing, value)
+    rest_handle::keeps(alloc, growing, value)
 }
 
 /// Ends the growth of a survey. The handle of the survey keeps it then, and that of the growth is empty.
@@ -82,7 +82,7 @@ pub extern "C" fn compressor_growing_settle(
 ) -> Answer
     ensures { SettlesGrowing growing.old.kept growing.new.kept survey.old.kept survey.new.kept result }
 {
-    comp_handle::settle_growing(alloc, growing, survey)
+    rest_handle::settle_growing(alloc, growing, survey)
 }
 
 /// Ends a survey that grows, or that is over, and gives its tables back. The handle of the tables keeps them then, and
@@ -95,7 +95,7 @@ pub extern "C" fn compressor_growing_return(
 ) -> Answer
     ensures { Turns room_in GivesBack IsNever growing.old.kept growing.new.kept tables.old.kept tables.new.kept result }
 {
-    comp_handle::return_growing(alloc, growing, tables)
+    rest_handle::return_growing(alloc, growing, tables)
 }
 
 /// Drops a survey that grows. Its handle is empty then.
@@ -103,5 +103,5 @@ pub extern "C" fn compressor_growing_return(
 pub extern "C" fn compressor_growing_drop(alloc: Global, growing: &mut Handle)
     ensures { growing.new.kept ≡ None }
 {
-    comp_handle::drop_kept(alloc, growing);
+    flip_handle::drop_kept(alloc, growing);
 }

@@ -1,10 +1,10 @@
 //! Exports for the lanes of a marking by several markers, while the threads of the heap go on.
 ghost use Rattle.std.specs.Prelude.{◌≡◌, None};
-ghost use Rattle.comp_handle.specs.HandleKinds.{lane_in, Asks};
-ghost use Rattle.comp_handle.specs.Lanes.{BeginsLane, GivesInLane, JoinsLanes, LooksInLane, MeetsInLane, SharesLane, TakesInLane, WholesLane};
-ghost use Rattle.comp_handle.specs.Looks.{CopiesWaiting};
+ghost use Rattle.handle_base.specs.HandleKinds.{lane_in, Asks};
+ghost use Rattle.beside_handle.specs.Lanes.{BeginsLane, GivesInLane, JoinsLanes, LooksInLane, MeetsInLane, SharesLane, TakesInLane, WholesLane};
+ghost use Rattle.beside_handle.specs.Looks.{CopiesWaiting};
 
-use comp_handle::{Answer, Handle};
+use handle_base::{Answer, Handle};
 use std::alloc::Global;
 
 /// Begins to mark a heap of this edition, 3 or 4, and of so many words, by several markers.
@@ -17,7 +17,7 @@ pub extern "C" fn compressor_lane_begin(
 ) -> Answer
     ensures { BeginsLane edition count lane.old.kept lane.new.kept result }
 {
-    comp_handle::begin_lane(alloc, edition, count, lane)
+    beside_handle::begin_lane(alloc, edition, count, lane)
 }
 
 /// Another lane of a marking, for another marker.
@@ -30,7 +30,7 @@ pub extern "C" fn compressor_lane_share(
     ensures same { lane.new.kept ≡ lane.old.kept }
     ensures shares { SharesLane lane.old.kept other.old.kept other.new.kept result }
 {
-    comp_handle::share_lane(alloc, lane, other)
+    beside_handle::share_lane(alloc, lane, other)
 }
 
 /// Copies the indices of the objects that wait to be looked at.
@@ -43,7 +43,7 @@ pub extern "C" fn compressor_c_lane_waiting(
     ensures same { lane.new.kept ≡ lane.old.kept }
     ensures copies { Asks 0 lane_in (λ own a. CopiesWaiting indices.old indices.new own.own a) (indices.new ≡ indices.old) lane.old.kept result }
 {
-    comp_handle::waiting_lane(alloc, lane, indices)
+    beside_handle::waiting_lane(alloc, lane, indices)
 }
 
 /// Meets the objects to which these values lead.
@@ -51,7 +51,7 @@ pub extern "C" fn compressor_c_lane_waiting(
 pub extern "C" fn compressor_c_lane_meet(alloc: Global, lane: &mut Handle, values: &[u64]) -> Answer
     ensures { MeetsInLane values.now lane.old.kept lane.new.kept result }
 {
-    comp_handle::meet_lane(alloc, lane, values)
+    beside_handle::meet_lane(alloc, lane, values)
 }
 
 /// Looks at the next objects that wait, one for each row.
@@ -59,7 +59,7 @@ pub extern "C" fn compressor_c_lane_meet(alloc: Global, lane: &mut Handle, value
 pub extern "C" fn compressor_c_lane_look(alloc: Global, lane: &mut Handle, rows: &[u64]) -> Answer
     ensures { LooksInLane rows.now lane.old.kept lane.new.kept result }
 {
-    comp_handle::look_lane(alloc, lane, rows)
+    beside_handle::look_lane(alloc, lane, rows)
 }
 
 /// Gives the last objects that wait away.
@@ -71,7 +71,7 @@ pub extern "C" fn compressor_c_lane_give(
 ) -> Answer
     ensures { GivesInLane indices.old indices.new lane.old.kept lane.new.kept result }
 {
-    comp_handle::give_lane(alloc, lane, indices)
+    beside_handle::give_lane(alloc, lane, indices)
 }
 
 /// Takes over the objects at these indices.
@@ -83,7 +83,7 @@ pub extern "C" fn compressor_c_lane_take(
 ) -> Answer
     ensures { TakesInLane indices.now lane.old.kept lane.new.kept result }
 {
-    comp_handle::take_lane(alloc, lane, indices)
+    beside_handle::take_lane(alloc, lane, indices)
 }
 
 /// Joins another lane to this one. The handle of the other one is empty then.
@@ -95,7 +95,7 @@ pub extern "C" fn compressor_lane_join(
 ) -> Answer
     ensures { JoinsLanes lane.old.kept lane.new.kept other.old.kept other.new.kept result }
 {
-    comp_handle::join_lanes(alloc, lane, other)
+    beside_handle::join_lanes(alloc, lane, other)
 }
 
 /// The whole marking. Its handle keeps it then, and that of the lane is empty.
@@ -107,7 +107,7 @@ pub extern "C" fn compressor_lane_whole(
 ) -> Answer
     ensures { WholesLane lane.old.kept lane.new.kept looks.old.kept looks.new.kept result }
 {
-    comp_handle::whole_lane(alloc, lane, looks)
+    beside_handle::whole_lane(alloc, lane, looks)
 }
 
 /// Drops a lane. Its handle is empty then.
@@ -115,5 +115,5 @@ pub extern "C" fn compressor_lane_whole(
 pub extern "C" fn compressor_lane_drop(alloc: Global, lane: &mut Handle)
     ensures { lane.new.kept ≡ None }
 {
-    comp_handle::drop_kept(alloc, lane);
+    flip_handle::drop_kept(alloc, lane);
 }

@@ -1,11 +1,11 @@
 //! Exports for a marking of a heap while its threads go on, by looks at one object after the other.
 ghost use Rattle.std.specs.Prelude.{◌≡◌, None};
-ghost use Rattle.comp_handle.specs.HandleKinds.{looks_in, Asks};
-ghost use Rattle.comp_handle.specs.Lanes.{Checks};
-ghost use Rattle.comp_handle.specs.Looking.{LooksAgain, LooksAtRows, MeetsValues};
-ghost use Rattle.comp_handle.specs.Looks.{BeginsLooks, CopiesWaiting, EndsLooks};
+ghost use Rattle.handle_base.specs.HandleKinds.{looks_in, Asks};
+ghost use Rattle.beside_handle.specs.Lanes.{Checks};
+ghost use Rattle.beside_handle.specs.Looking.{LooksAgain, LooksAtRows, MeetsValues};
+ghost use Rattle.beside_handle.specs.Looks.{BeginsLooks, CopiesWaiting, EndsLooks};
 
-use comp_handle::{Answer, Handle};
+use handle_base::{Answer, Handle};
 use std::alloc::Global;
 
 /// Begins to mark what these roots reach, in a heap of this edition, 3 or 4, and of so many words.
@@ -19,7 +19,7 @@ pub extern "C" fn compressor_c_looks_begin(
 ) -> Answer
     ensures { BeginsLooks edition count roots.now looks.old.kept looks.new.kept result }
 {
-    comp_handle::begin_looks(alloc, edition, count, roots, looks)
+    beside_handle::begin_looks(alloc, edition, count, roots, looks)
 }
 
 /// Copies the indices of the objects that wait to be looked at.
@@ -32,7 +32,7 @@ pub extern "C" fn compressor_c_looks_waiting(
     ensures same { looks.new.kept ≡ looks.old.kept }
     ensures copies { Asks 0 looks_in (CopiesWaiting indices.old indices.new) (indices.new ≡ indices.old) looks.old.kept result }
 {
-    comp_handle::waiting_looks(alloc, looks, indices)
+    beside_handle::waiting_looks(alloc, looks, indices)
 }
 
 /// Looks at the next objects that wait, one for each row.
@@ -40,7 +40,7 @@ pub extern "C" fn compressor_c_looks_waiting(
 pub extern "C" fn compressor_c_looks_look(alloc: Global, looks: &mut Handle, rows: &[u64]) -> Answer
     ensures { LooksAtRows rows.now looks.old.kept looks.new.kept result }
 {
-    comp_handle::look_rows(alloc, looks, rows)
+    beside_handle::look_rows(alloc, looks, rows)
 }
 
 /// Looks again at the object at this index.
@@ -53,7 +53,7 @@ pub extern "C" fn compressor_c_looks_again(
 ) -> Answer
     ensures { LooksAgain index row.now looks.old.kept looks.new.kept result }
 {
-    comp_handle::look_again(alloc, looks, index, row)
+    beside_handle::look_again(alloc, looks, index, row)
 }
 
 /// Meets the objects to which these values lead.
@@ -65,7 +65,7 @@ pub extern "C" fn compressor_c_looks_meet(
 ) -> Answer
     ensures { MeetsValues values.now looks.old.kept looks.new.kept result }
 {
-    comp_handle::meet_looks(alloc, looks, values)
+    beside_handle::meet_looks(alloc, looks, values)
 }
 
 /// Ends a marking of which no object waits. The handle of the survey keeps what was found then, and that of the marking
@@ -79,7 +79,7 @@ pub extern "C" fn compressor_c_looks_finish(
 ) -> Answer
     ensures { EndsLooks roots.now looks.old.kept looks.new.kept survey.old.kept survey.new.kept result }
 {
-    comp_handle::finish_looks(alloc, looks, roots, survey)
+    beside_handle::finish_looks(alloc, looks, roots, survey)
 }
 
 /// Asks of all objects that were looked at whether they are in these words as they must be.
@@ -92,7 +92,7 @@ pub extern "C" fn compressor_c_looks_check(
     ensures same { looks.new.kept ≡ looks.old.kept }
     ensures checks { Asks 0 looks_in (Checks words.now) (Unit {0}) looks.old.kept result }
 {
-    comp_handle::check_looks(alloc, looks, words)
+    beside_handle::check_looks(alloc, looks, words)
 }
 
 /// Drops a marking. Its handle is empty then.
@@ -100,5 +100,5 @@ pub extern "C" fn compressor_c_looks_check(
 pub extern "C" fn compressor_looks_drop(alloc: Global, looks: &mut Handle)
     ensures { looks.new.kept ≡ None }
 {
-    comp_handle::drop_kept(alloc, looks);
+    flip_handle::drop_kept(alloc, looks);
 }

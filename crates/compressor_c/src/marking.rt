@@ -1,10 +1,10 @@
 //! Exports for the marking of a heap by many threads, over words that are lent at each call.
 ghost use Rattle.std.specs.Prelude.{◌≡◌, None, length};
-ghost use Rattle.comp_handle.specs.HandleKinds.{marking_in, Asks, Turns};
-ghost use Rattle.comp_handle.specs.Lending.{IsStillShared};
-ghost use Rattle.comp_handle.specs.Marking.{BeginsMarking, EndsMarking, HelpsMarking, MeetsMarking, SharesMarking};
+ghost use Rattle.handle_base.specs.HandleKinds.{marking_in, Asks, Turns};
+ghost use Rattle.rest_handle.specs.Lending.{IsStillShared};
+ghost use Rattle.beside_handle.specs.Marking.{BeginsMarking, EndsMarking, HelpsMarking, MeetsMarking, SharesMarking};
 
-use comp_handle::{Answer, Handle};
+use handle_base::{Answer, Handle};
 use std::alloc::Global;
 
 /// Begins to mark what these roots reach, in a heap of this edition, 3 or 4, and of so many words.
@@ -18,7 +18,7 @@ pub extern "C" fn compressor_c_marking_begin(
 ) -> Answer
     ensures { BeginsMarking edition count roots.now marking.old.kept marking.new.kept result }
 {
-    comp_handle::begin_marking(alloc, edition, count, roots, marking)
+    beside_handle::begin_marking(alloc, edition, count, roots, marking)
 }
 
 /// Another share of a marking, for another thread.
@@ -31,7 +31,7 @@ pub extern "C" fn compressor_marking_share(
     ensures same { marking.new.kept ≡ marking.old.kept }
     ensures shares { SharesMarking marking.old.kept other.old.kept other.new.kept result }
 {
-    comp_handle::share_marking(alloc, marking, other)
+    beside_handle::share_marking(alloc, marking, other)
 }
 
 /// Looks at some of the objects that wait, in these words of the heap.
@@ -45,7 +45,7 @@ pub extern "C" fn compressor_c_marking_help(
     ensures same { marking.new.kept ≡ marking.old.kept }
     ensures helps { Asks 0 marking_in (HelpsMarking (length words.now)) (Unit {0}) marking.old.kept result }
 {
-    comp_handle::help_marking(alloc, marking, words, who)
+    beside_handle::help_marking(alloc, marking, words, who)
 }
 
 /// Meets the objects to which these values lead.
@@ -57,7 +57,7 @@ pub extern "C" fn compressor_c_marking_meet(
 ) -> Answer
     ensures { MeetsMarking values.now marking.old.kept marking.new.kept result }
 {
-    comp_handle::meet_marking(alloc, marking, values)
+    beside_handle::meet_marking(alloc, marking, values)
 }
 
 /// Ends a marking. The handle of the survey keeps what was found then, and that of the marking is empty.
@@ -70,7 +70,7 @@ pub extern "C" fn compressor_c_marking_finish(
 ) -> Answer
     ensures { Turns marking_in (EndsMarking roots.now) IsStillShared marking.old.kept marking.new.kept survey.old.kept survey.new.kept result }
 {
-    comp_handle::finish_marking(alloc, marking, roots, survey)
+    beside_handle::finish_marking(alloc, marking, roots, survey)
 }
 
 /// Drops a share of a marking. Its handle is empty then.
@@ -78,5 +78,5 @@ pub extern "C" fn compressor_c_marking_finish(
 pub extern "C" fn compressor_marking_drop(alloc: Global, marking: &mut Handle)
     ensures { marking.new.kept ≡ None }
 {
-    comp_handle::drop_kept(alloc, marking);
+    flip_handle::drop_kept(alloc, marking);
 }

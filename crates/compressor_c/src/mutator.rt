@@ -1,14 +1,15 @@
 //! Exports that act on a mutator.
 ghost use Rattle.std.specs.Prelude.{◌≡◌, None};
-ghost use Rattle.comp_handle.specs.Calling.{Calls, Does};
-ghost use Rattle.comp_handle.specs.Copying.{CopiesRoots};
-ghost use Rattle.comp_handle.specs.Facts.{Counts};
-ghost use Rattle.comp_handle.specs.Joining.{AreApart, Brings};
-ghost use Rattle.comp_handle.specs.HandleKinds.{mutator_in, Asks};
-ghost use Rattle.comp_handle.specs.Seeing.{SeesBy};
-ghost use Rattle.comp_handle.specs.declared.calling.Call.TheVariants as calls;
+ghost use Rattle.flip_handle.specs.Calling.{Calls, Does};
+ghost use Rattle.handle_base.specs.Copying.{CopiesRoots};
+ghost use Rattle.flip_handle.specs.Facts.{Counts};
+ghost use Rattle.flip_handle.specs.Joining.{AreApart, Brings};
+ghost use Rattle.handle_base.specs.HandleKinds.{mutator_in, Asks};
+ghost use Rattle.flip_handle.specs.Seeing.{SeesBy};
+ghost use Rattle.flip_handle.specs.declared.calling.Call.TheVariants as calls;
 
-use comp_handle::{Answer, Call, Handle, MutatorFacts};
+use flip_handle::{Call, MutatorFacts};
+use handle_base::{Answer, Handle};
 use std::alloc::Global;
 
 /// Reads a reference field.
@@ -21,7 +22,7 @@ pub extern "C" fn compressor_mutator_read_ref(
 ) -> Answer
     ensures { Calls (Does (calls.ReadRef object field)) mutator.old.kept mutator.new.kept result }
 {
-    comp_handle::make_call(alloc, mutator, Call::ReadRef(object, field))
+    flip_handle::make_call(alloc, mutator, Call::ReadRef(object, field))
 }
 
 /// Reads a weak field.
@@ -34,7 +35,7 @@ pub extern "C" fn compressor_mutator_read_weak(
 ) -> Answer
     ensures { Calls (Does (calls.ReadWeak object field)) mutator.old.kept mutator.new.kept result }
 {
-    comp_handle::make_call(alloc, mutator, Call::ReadWeak(object, field))
+    flip_handle::make_call(alloc, mutator, Call::ReadWeak(object, field))
 }
 
 /// Reads a data field.
@@ -47,7 +48,7 @@ pub extern "C" fn compressor_mutator_read_data(
 ) -> Answer
     ensures { Calls (Does (calls.ReadData object field)) mutator.old.kept mutator.new.kept result }
 {
-    comp_handle::make_call(alloc, mutator, Call::ReadData(object, field))
+    flip_handle::make_call(alloc, mutator, Call::ReadData(object, field))
 }
 
 /// Reads the header of an object.
@@ -59,7 +60,7 @@ pub extern "C" fn compressor_mutator_header(
 ) -> Answer
     ensures { Calls (Does (calls.Header object)) mutator.old.kept mutator.new.kept result }
 {
-    comp_handle::make_call(alloc, mutator, Call::Header(object))
+    flip_handle::make_call(alloc, mutator, Call::Header(object))
 }
 
 /// Writes a reference field.
@@ -73,7 +74,7 @@ pub extern "C" fn compressor_mutator_write_ref(
 ) -> Answer
     ensures { Calls (Does (calls.WriteRef object field value)) mutator.old.kept mutator.new.kept result }
 {
-    comp_handle::make_call(alloc, mutator, Call::WriteRef(object, field, value))
+    flip_handle::make_call(alloc, mutator, Call::WriteRef(object, field, value))
 }
 
 /// Writes a weak field.
@@ -87,7 +88,7 @@ pub extern "C" fn compressor_mutator_write_weak(
 ) -> Answer
     ensures { Calls (Does (calls.WriteWeak object field value)) mutator.old.kept mutator.new.kept result }
 {
-    comp_handle::make_call(alloc, mutator, Call::WriteWeak(object, field, value))
+    flip_handle::make_call(alloc, mutator, Call::WriteWeak(object, field, value))
 }
 
 /// Writes a data field.
@@ -101,7 +102,7 @@ pub extern "C" fn compressor_mutator_write_data(
 ) -> Answer
     ensures { Calls (Does (calls.WriteData object field value)) mutator.old.kept mutator.new.kept result }
 {
-    comp_handle::make_call(alloc, mutator, Call::WriteData(object, field, value))
+    flip_handle::make_call(alloc, mutator, Call::WriteData(object, field, value))
 }
 
 /// Makes an object with this header word.
@@ -113,7 +114,7 @@ pub extern "C" fn compressor_mutator_alloc(
 ) -> Answer
     ensures { Calls (Does (calls.Alloc header)) mutator.old.kept mutator.new.kept result }
 {
-    comp_handle::make_call(alloc, mutator, Call::Alloc(header))
+    flip_handle::make_call(alloc, mutator, Call::Alloc(header))
 }
 
 /// Builds a page if nobody has.
@@ -121,7 +122,7 @@ pub extern "C" fn compressor_mutator_alloc(
 pub extern "C" fn compressor_mutator_touch(alloc: Global, mutator: &mut Handle, page: u64) -> Answer
     ensures { Calls (Does (calls.Touch page)) mutator.old.kept mutator.new.kept result }
 {
-    comp_handle::make_call(alloc, mutator, Call::Touch(page))
+    flip_handle::make_call(alloc, mutator, Call::Touch(page))
 }
 
 /// Copies the 64 words of a page as the mutator has then seen it.
@@ -134,7 +135,7 @@ pub extern "C" fn compressor_mutator_page(
 ) -> Answer
     ensures { SeesBy page out.old out.new mutator.old.kept mutator.new.kept result }
 {
-    comp_handle::seen_page(alloc, mutator, page, out)
+    flip_handle::seen_page(alloc, mutator, page, out)
 }
 
 /// The forwarded root with this number.
@@ -146,7 +147,7 @@ pub extern "C" fn compressor_mutator_root(
 ) -> Answer
     ensures { Calls (Does (calls.Root number)) mutator.old.kept mutator.new.kept result }
 {
-    comp_handle::make_call(alloc, mutator, Call::Root(number))
+    flip_handle::make_call(alloc, mutator, Call::Root(number))
 }
 
 /// Copies all forwarded roots.
@@ -159,7 +160,7 @@ pub extern "C" fn compressor_c_mutator_roots(
     ensures same { mutator.new.kept ≡ mutator.old.kept }
     ensures copies { Asks 0 mutator_in (CopiesRoots out.old out.new) (out.new ≡ out.old) mutator.old.kept result }
 {
-    comp_handle::mutator_roots(alloc, mutator, out)
+    handle_base::mutator_roots(alloc, mutator, out)
 }
 
 /// The page that the mutator built as the one with this number.
@@ -171,7 +172,7 @@ pub extern "C" fn compressor_mutator_build(
 ) -> Answer
     ensures { Calls (Does (calls.Build number)) mutator.old.kept mutator.new.kept result }
 {
-    comp_handle::make_call(alloc, mutator, Call::Build(number))
+    flip_handle::make_call(alloc, mutator, Call::Build(number))
 }
 
 /// Copies the counts of a mutator.
@@ -184,7 +185,7 @@ pub extern "C" fn compressor_mutator_facts_of(
     ensures same { mutator.new.kept ≡ mutator.old.kept }
     ensures counts { Asks 0 mutator_in (Counts facts.new) (facts.new ≡ facts.old) mutator.old.kept result }
 {
-    comp_handle::mutator_facts(alloc, mutator, facts)
+    flip_handle::mutator_facts(alloc, mutator, facts)
 }
 
 /// Lets two mutators meet.
@@ -197,7 +198,7 @@ pub extern "C" fn compressor_mutator_meet(
     requires { AreApart mutator.old.kept other.old.kept }
     ensures { Brings mutator.old.kept other.old.kept mutator.new.kept other.new.kept result }
 {
-    comp_handle::meet_members(alloc, mutator, other)
+    flip_handle::meet_members(alloc, mutator, other)
 }
 
 /// Drops a mutator. Its handle is empty then.
@@ -205,5 +206,5 @@ pub extern "C" fn compressor_mutator_meet(
 pub extern "C" fn compressor_mutator_drop(alloc: Global, mutator: &mut Handle)
     ensures { mutator.new.kept ≡ None }
 {
-    comp_handle::drop_kept(alloc, mutator);
+    flip_handle::drop_kept(alloc, mutator);
 }

@@ -1,9 +1,9 @@
 //! Exports for a slide of a heap at rest, page by page, by whoever touches a page first.
 ghost use Rattle.std.specs.Prelude.{◌≡◌, None};
-ghost use Rattle.comp_handle.specs.Paging.{BeginsPages, EndsPages, SharesPages};
-ghost use Rattle.comp_handle.specs.Touching.{Builds, Claims, Publishes, Touches};
+ghost use Rattle.beside_handle.specs.Paging.{BeginsPages, EndsPages, SharesPages};
+ghost use Rattle.beside_handle.specs.Touching.{Builds, Claims, Publishes, Touches};
 
-use comp_handle::{Answer, Handle};
+use handle_base::{Answer, Handle};
 use std::alloc::Global;
 
 /// Begins to slide a surveyed heap, in pages of so many words. The handle of the survey is empty then.
@@ -16,7 +16,7 @@ pub extern "C" fn compressor_pages_begin(
 ) -> Answer
     ensures { BeginsPages page_words survey.old.kept survey.new.kept pages.old.kept pages.new.kept result }
 {
-    comp_handle::begin_pages(alloc, survey, page_words, pages)
+    beside_handle::begin_pages(alloc, survey, page_words, pages)
 }
 
 /// Another share of the pages, for another thread. It has no turn.
@@ -29,7 +29,7 @@ pub extern "C" fn compressor_pages_share(
     ensures same { pages.new.kept ≡ pages.old.kept }
     ensures shares { SharesPages pages.old.kept other.old.kept other.new.kept result }
 {
-    comp_handle::share_pages(alloc, pages, other)
+    beside_handle::share_pages(alloc, pages, other)
 }
 
 /// Takes the turn for a page.
@@ -37,7 +37,7 @@ pub extern "C" fn compressor_pages_share(
 pub extern "C" fn compressor_pages_claim(alloc: Global, pages: &mut Handle, page: u64) -> Answer
     ensures { Touches (Claims page) (Unit {0}) pages.old.kept pages.new.kept result }
 {
-    comp_handle::claim_page(alloc, pages, page)
+    beside_handle::claim_page(alloc, pages, page)
 }
 
 /// Fills the memory of the page whose turn the handle has.
@@ -50,7 +50,7 @@ pub extern "C" fn compressor_c_pages_build(
 ) -> Answer
     ensures { Touches (Builds words.now page.old page.new) (page.new ≡ page.old) pages.old.kept pages.new.kept result }
 {
-    comp_handle::build_page(alloc, pages, words, page)
+    beside_handle::build_page(alloc, pages, words, page)
 }
 
 /// Says to all handles that the page that was built is home.
@@ -58,7 +58,7 @@ pub extern "C" fn compressor_c_pages_build(
 pub extern "C" fn compressor_pages_publish(alloc: Global, pages: &mut Handle) -> Answer
     ensures { Touches Publishes (Unit {0}) pages.old.kept pages.new.kept result }
 {
-    comp_handle::publish_page(alloc, pages)
+    beside_handle::publish_page(alloc, pages)
 }
 
 /// Ends the pages, all of which are home. The handle of the survey keeps it again, and that of the pages is empty.
@@ -70,7 +70,7 @@ pub extern "C" fn compressor_pages_end(
 ) -> Answer
     ensures { EndsPages pages.old.kept pages.new.kept survey.old.kept survey.new.kept result }
 {
-    comp_handle::end_pages(alloc, pages, survey)
+    beside_handle::end_pages(alloc, pages, survey)
 }
 
 /// Drops a share of the pages. Its handle is empty then. A page whose turn it had never comes home.
@@ -78,5 +78,5 @@ pub extern "C" fn compressor_pages_end(
 pub extern "C" fn compressor_pages_drop(alloc: Global, pages: &mut Handle)
     ensures { pages.new.kept ≡ None }
 {
-    comp_handle::drop_kept(alloc, pages);
+    flip_handle::drop_kept(alloc, pages);
 }

@@ -1,14 +1,15 @@
 //! Exports that act on a plan.
 ghost use Rattle.std.specs.Prelude.{◌≡◌, None};
-ghost use Rattle.comp_handle.specs.Crewing.{Flips};
-ghost use Rattle.comp_handle.specs.Facts.{CountsPlan};
-ghost use Rattle.comp_handle.specs.Judging.{JudgesBy};
-ghost use Rattle.comp_handle.specs.HandleKinds.{plan_in, Asks};
-ghost use Rattle.comp_handle.specs.Planning.{CopiesPlanned, ForwardsBy};
-ghost use Rattle.comp_handle.specs.Resting.{Shares};
-ghost use Rattle.comp_handle.specs.Telling.{ExplainsBy};
+ghost use Rattle.flip_handle.specs.Crewing.{Flips};
+ghost use Rattle.flip_handle.specs.Facts.{CountsPlan};
+ghost use Rattle.file_handle.specs.Judging.{JudgesBy};
+ghost use Rattle.handle_base.specs.HandleKinds.{plan_in, Asks};
+ghost use Rattle.flip_handle.specs.Planning.{CopiesPlanned, ForwardsBy};
+ghost use Rattle.handle_base.specs.Sharing.{Shares};
+ghost use Rattle.file_handle.specs.Telling.{ExplainsBy};
 
-use comp_handle::{Answer, Handle, PlanFacts};
+use flip_handle::PlanFacts;
+use handle_base::{Answer, Handle};
 use std::alloc::Global;
 
 /// Copies the counts of a plan.
@@ -21,7 +22,7 @@ pub extern "C" fn compressor_plan_facts_of(
     ensures same { plan.new.kept ≡ plan.old.kept }
     ensures counts { Asks 0 plan_in (CountsPlan facts.new) (facts.new ≡ facts.old) plan.old.kept result }
 {
-    comp_handle::plan_facts(alloc, plan, facts)
+    flip_handle::plan_facts(alloc, plan, facts)
 }
 
 /// Another share of a plan, for another thread.
@@ -34,7 +35,7 @@ pub extern "C" fn compressor_plan_share(
     ensures same { plan.new.kept ≡ plan.old.kept }
     ensures shares { Shares plan_in plan.old.kept other.old.kept other.new.kept result }
 {
-    comp_handle::share_plan(alloc, plan, other)
+    flip_handle::share_plan(alloc, plan, other)
 }
 
 /// Makes addresses of from-space lead to where their objects slide.
@@ -47,7 +48,7 @@ pub extern "C" fn compressor_c_plan_forward(
     ensures same { plan.new.kept ≡ plan.old.kept }
     ensures forwards { Asks 0 plan_in (ForwardsBy addresses.old addresses.new) (addresses.new ≡ addresses.old) plan.old.kept result }
 {
-    comp_handle::forward_plan(alloc, plan, addresses)
+    flip_handle::forward_plan(alloc, plan, addresses)
 }
 
 /// Copies the 64 words of a compacted page, as nobody has written to it.
@@ -61,7 +62,7 @@ pub extern "C" fn compressor_plan_page(
     ensures same { plan.new.kept ≡ plan.old.kept }
     ensures copies { Asks 0 plan_in (CopiesPlanned page out.old out.new) (out.new ≡ out.old) plan.old.kept result }
 {
-    comp_handle::plan_page(alloc, plan, page, out)
+    flip_handle::plan_page(alloc, plan, page, out)
 }
 
 /// Flips a planned heap for a new crew of this name.
@@ -77,7 +78,7 @@ pub extern "C" fn compressor_c_plan_flip(
     ensures same { plan.new.kept ≡ plan.old.kept }
     ensures flips { Flips name mutators fresh_pages plan.old.kept crew.old.kept crew.new.kept result }
 {
-    comp_handle::flip_crew(alloc, plan, name, mutators, fresh_pages, crew)
+    flip_handle::flip_crew(alloc, plan, name, mutators, fresh_pages, crew)
 }
 
 /// Judges a dump, or a file of words, for the heap of a plan.
@@ -91,7 +92,7 @@ pub extern "C" fn compressor_c_plan_audit(
     ensures same { plan.new.kept ≡ plan.old.kept }
     ensures judges { Asks 0 plan_in (JudgesBy options bytes.now) (Unit {0}) plan.old.kept result }
 {
-    comp_handle::judge_dump(alloc, plan, bytes, options)
+    file_handle::judge_dump(alloc, plan, bytes, options)
 }
 
 /// Copies what is wrong where with a dump, or a file of words.
@@ -106,7 +107,7 @@ pub extern "C" fn compressor_c_plan_explain(
     ensures same { plan.new.kept ≡ plan.old.kept }
     ensures explains { Asks 0 plan_in (ExplainsBy options bytes.now out.old out.new) (out.new ≡ out.old) plan.old.kept result }
 {
-    comp_handle::explain_dump(alloc, plan, bytes, options, out)
+    file_handle::explain_dump(alloc, plan, bytes, options, out)
 }
 
 /// Drops a plan. Its handle is empty then.
@@ -114,5 +115,5 @@ pub extern "C" fn compressor_c_plan_explain(
 pub extern "C" fn compressor_plan_drop(alloc: Global, plan: &mut Handle)
     ensures { plan.new.kept ≡ None }
 {
-    comp_handle::drop_kept(alloc, plan);
+    flip_handle::drop_kept(alloc, plan);
 }

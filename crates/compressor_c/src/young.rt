@@ -1,10 +1,10 @@
 //! Exports for young collections of a heap at rest, by tables that know a watermark.
 ghost use Rattle.std.specs.Prelude.{◌≡◌, None};
-ghost use Rattle.comp_handle.specs.HandleKinds.{old_in, Asks, Fills};
-ghost use Rattle.comp_handle.specs.Raising.{Raises};
-ghost use Rattle.comp_handle.specs.Young.{ChangesOld, ChecksOld, CollectsAging, CollectsAll, CollectsYoung, CollectsYoungBy, ReservesOld, SaysWatermark};
+ghost use Rattle.handle_base.specs.HandleKinds.{old_in, Asks, Fills};
+ghost use Rattle.rest_handle.specs.Raising.{Raises};
+ghost use Rattle.rest_handle.specs.Young.{ChangesOld, ChecksOld, CollectsAging, CollectsAll, CollectsYoung, CollectsYoungBy, ReservesOld, SaysWatermark};
 
-use comp_handle::{Answer, Handle};
+use handle_base::{Answer, Handle};
 use std::alloc::Global;
 
 /// Makes tables with room for collections of so many words, whose watermark is 0.
@@ -12,7 +12,7 @@ use std::alloc::Global;
 pub extern "C" fn compressor_old_reserve(alloc: Global, words: u64, old: &mut Handle) -> Answer
     ensures { Fills 0 (ReservesOld words) (Unit {0}) old.old.kept old.new.kept result }
 {
-    comp_handle::reserve_old(alloc, words, old)
+    rest_handle::reserve_old(alloc, words, old)
 }
 
 /// The watermark of tables.
@@ -21,7 +21,7 @@ pub extern "C" fn compressor_watermark(alloc: Global, old: &mut Handle) -> Answe
     ensures same { old.new.kept ≡ old.old.kept }
     ensures says { Asks 0 old_in SaysWatermark (Unit {0}) old.old.kept result }
 {
-    comp_handle::watermark(alloc, old)
+    rest_handle::watermark(alloc, old)
 }
 
 /// Collects all of the heap of these words and roots, of this edition, 1 to 4, within the words.
@@ -35,7 +35,7 @@ pub extern "C" fn compressor_c_collect_all(
 ) -> Answer
     ensures { ChangesOld (CollectsAll edition words.old words.new roots.old roots.new) ((words.new ≡ words.old) × (roots.new ≡ roots.old)) old.old.kept old.new.kept result }
 {
-    comp_handle::collect_all(alloc, old, edition, words, roots)
+    rest_handle::collect_all(alloc, old, edition, words, roots)
 }
 
 /// Collects what is young of it, by cards.
@@ -50,7 +50,7 @@ pub extern "C" fn compressor_c_collect_young(
 ) -> Answer
     ensures { ChangesOld (CollectsYoung edition words.old words.new cards.now roots.old roots.new) ((words.new ≡ words.old) × (roots.new ≡ roots.old)) old.old.kept old.new.kept result }
 {
-    comp_handle::collect_young(alloc, old, edition, words, cards, roots)
+    rest_handle::collect_young(alloc, old, edition, words, cards, roots)
 }
 
 /// Collects what is young of it, by a list of the words of old objects into which was stored, in place of cards.
@@ -65,7 +65,7 @@ pub extern "C" fn compressor_c_collect_young_by(
 ) -> Answer
     ensures { ChangesOld (CollectsYoungBy edition words.old words.new fields.old fields.new roots.old roots.new) ((words.new ≡ words.old) × (fields.new ≡ fields.old) × (roots.new ≡ roots.old)) old.old.kept old.new.kept result }
 {
-    comp_handle::collect_young_by(alloc, old, edition, words, fields, roots)
+    rest_handle::collect_young_by(alloc, old, edition, words, fields, roots)
 }
 
 /// Collects by cards, but an object becomes old when it has survived two collections; the cards are made anew.
@@ -80,7 +80,7 @@ pub extern "C" fn compressor_c_collect_aging(
 ) -> Answer
     ensures { ChangesOld (CollectsAging edition words.old words.new cards.old cards.new roots.old roots.new) ((words.new ≡ words.old) × (cards.new ≡ cards.old) × (roots.new ≡ roots.old)) old.old.kept old.new.kept result }
 {
-    comp_handle::collect_aging(alloc, old, edition, words, cards, roots)
+    rest_handle::collect_aging(alloc, old, edition, words, cards, roots)
 }
 
 /// Raises the watermark to word `end`: all that lies below is old then, and nothing is collected.
@@ -94,7 +94,7 @@ pub extern "C" fn compressor_c_old_raise(
 ) -> Answer
     ensures { ChangesOld (Raises edition words.now end) (Unit {0}) old.old.kept old.new.kept result }
 {
-    comp_handle::raise_old(alloc, old, edition, words, end)
+    rest_handle::raise_old(alloc, old, edition, words, end)
 }
 
 /// Whether the words below the watermark are as a young collection by these cards believes.
@@ -109,7 +109,7 @@ pub extern "C" fn compressor_c_old_check(
     ensures same { old.new.kept ≡ old.old.kept }
     ensures checks { Asks 0 old_in (ChecksOld edition words.now cards.now) (Unit {0}) old.old.kept result }
 {
-    comp_handle::check_old(alloc, old, edition, words, cards)
+    rest_handle::check_old(alloc, old, edition, words, cards)
 }
 
 /// Drops tables with a watermark. Their handle is empty then.
@@ -117,5 +117,5 @@ pub extern "C" fn compressor_c_old_check(
 pub extern "C" fn compressor_old_return(alloc: Global, old: &mut Handle)
     ensures { old.new.kept ≡ None }
 {
-    comp_handle::drop_kept(alloc, old);
+    flip_handle::drop_kept(alloc, old);
 }

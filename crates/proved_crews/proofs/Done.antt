@@ -13,14 +13,14 @@ use Rattle.comp_crew.specs.declared.bench.Bench.{Bench}
 use Rattle.comp_crew.specs.declared.crew.Crew.{Crew}
 use Rattle.comp_crew.specs.declared.fault.FinishFault.{FinishFault}
 use Rattle.comp_crew.specs.declared.fault.FinishFault.TheVariants as finish
-use Rattle.comp_handle.specs.Answers.{bare, of_layout}
-use Rattle.comp_handle.specs.Crewing.{Flips, FlipsOf, IsUnflipped, IsUntaken, Leaves, Takes}
-use Rattle.comp_handle.specs.Joining.{AreApart, Brings, Gives, IsToldFrom, Joins, Meets}
-use Rattle.comp_handle.specs.HandleKinds.{crew_in, end_in, heap_in, mutator_in, not_there, plan_in, Asks, Fills, Turns}
-use Rattle.comp_handle.specs.Turning.{of_finish, Finishes, FollowsReached, IsUnfinished, IsUnplanned, IsUnreached, Plans}
-use Rattle.comp_handle.specs.declared.answer.Answer.{Answer}
-use Rattle.comp_handle.specs.declared.kept.Kept.{Kept}
-use Rattle.comp_handle.specs.declared.kept.Kept.TheVariants as kept
+use Rattle.handle_base.specs.Answers.{bare, of_layout}
+use Rattle.flip_handle.specs.Crewing.{Flips, FlipsOf, IsUnflipped, IsUntaken, Leaves, Takes}
+use Rattle.flip_handle.specs.Joining.{AreApart, Brings, Gives, IsToldFrom, Joins, Meets}
+use Rattle.handle_base.specs.HandleKinds.{crew_in, end_in, heap_in, mutator_in, not_there, plan_in, Asks, Fills, Turns}
+use Rattle.flip_handle.specs.Turning.{of_finish, Finishes, FollowsReached, IsUnfinished, IsUnplanned, IsUnreached, Plans}
+use Rattle.handle_base.specs.declared.answer.Answer.{Answer}
+use Rattle.handle_base.specs.declared.kept.Kept.{Kept}
+use Rattle.handle_base.specs.declared.kept.Kept.TheVariants as kept
 use Rattle.proved_crews.specs.Crews.{AreFellows, AreOfOneCrew, HasGiven, HasTaken, HaveMet, KeepsCrew, KeepsEnd, KeepsFlip, KeepsHeap, KeepsMutator, KeepsNext}
 
 -- an answer with another status

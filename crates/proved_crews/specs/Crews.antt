@@ -12,10 +12,10 @@ use Rattle.comp_crew.specs.declared.bench.Bench.{Bench}
 use Rattle.comp_crew.specs.declared.crew.Crew.{Crew}
 use Rattle.comp_crew.specs.declared.finishing.Ended.{Ended as End}
 use Rattle.comp_crew.specs.declared.member.Member.{Member}
-use Rattle.comp_handle.specs.Joining.{AreMet}
-use Rattle.comp_handle.specs.HandleKinds.{crew_in, mutator_in}
-use Rattle.comp_handle.specs.declared.kept.Kept.{Kept}
-use Rattle.comp_handle.specs.declared.kept.Kept.TheVariants as kept
+use Rattle.flip_handle.specs.Joining.{AreMet}
+use Rattle.handle_base.specs.HandleKinds.{crew_in, mutator_in}
+use Rattle.handle_base.specs.declared.kept.Kept.{Kept}
+use Rattle.handle_base.specs.declared.kept.Kept.TheVariants as kept
 
 -- the handle keeps this heap
 abbrev pub KeepsHeap : Heap → Option Kept → Type 0

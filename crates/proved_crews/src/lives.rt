@@ -5,7 +5,7 @@ ghost use Rattle.proved_crews.specs.Crews.{IsFollowed, KeepsHeap, KeepsNext, Liv
 
 use crate::calls::{finish, flip, follow, plan};
 use crate::mixed::{end, mix_up};
-use comp_handle::{Handle, Kept};
+use handle_base::{Handle, Kept};
 use heap_layout::MarkedHeap;
 use std::alloc::Global;
 

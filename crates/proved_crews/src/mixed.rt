@@ -1,12 +1,13 @@
 //! Two crews whose mutators are mixed up.
 ghost use Rattle.std.specs.Prelude.{◌≡◌, ◌≢◌, IsTrue};
 ghost use Rattle.comp_crew.specs.declared.crew.Crew.{Crew};
-ghost use Rattle.comp_handle.specs.Answers.{bare};
-ghost use Rattle.comp_handle.specs.Statuses.{other_crew};
+ghost use Rattle.handle_base.specs.Answers.{bare};
+ghost use Rattle.handle_base.specs.Statuses.{other_crew};
 ghost use Rattle.proved_crews.specs.Crews.{AreMixed, KeepsCrew};
 
 use crate::calls::{give, meet, take};
-use comp_handle::{Answer, Handle, drop_kept, give_member};
+use flip_handle::{drop_kept, give_member};
+use handle_base::{Answer, Handle};
 use std::alloc::Global;
 
 /// Hands a mutator to a crew of another name. It is refused as that of another crew, and nothing has changed.

@@ -6,8 +6,8 @@ ghost use Rattle.rest_marks.specs.Kept.{AreKeptIn, EndsBefore, IsAsked};
 ghost use Rattle.rest_marks.specs.Marks.{IsKept};
 
 use crate::bit_search::next_set;
-use crate::marking::{references, weak_words};
 use crate::given_marks::check_kept;
+use crate::marking::{references, weak_words};
 use crate::queue::check_leads;
 use crate::shape::shape_of;
 use heap_layout::Edition;

@@ -69,13 +69,7 @@ fn is_at_most(heads: &[u64], bits: &[u64], counts: &[u32], n: u64, i: usize) -> 
 
 /// The last bit of `heads` that is set, and below which at most `n` bits of `bits` are set. There must be one, and more
 /// than `n` bits of `bits` must be set. It finds the block by bisection, and looks at no other block.
-pub fn last_head(
-    heads: &[u64],
-    bits: &[u64],
-    counts: &[u32],
-    starts: &[u32],
-    n: u64,
-) -> usize
+pub fn last_head(heads: &[u64], bits: &[u64], counts: &[u32], starts: &[u32], n: u64) -> usize
     requires offsets { AreOffsets bits.now counts.now }
     requires starts { AreStarts heads.now starts.now }
     requires same { length heads.now ≡ length bits.now }

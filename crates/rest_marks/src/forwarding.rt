@@ -24,12 +24,7 @@ pub fn below(bits: &[u64], counts: &[u32], i: usize) -> u64
 /// A reference after the collection, which must be null, the address of a live object, or an immediate. There must be
 /// some bits.
 #[inline(always)]
-pub fn settled_reference(
-    edition: Edition,
-    bits: &[u64],
-    counts: &[u32],
-    reference: u64,
-) -> u64
+pub fn settled_reference(edition: Edition, bits: &[u64], counts: &[u32], reference: u64) -> u64
     requires offsets { AreOffsets bits.now counts.now }
     requires known { is_immediate edition reference ≡ false → reference - 2 ^ 32 < 64 * length bits.now }
     ensures { result ≡ led_to edition (set_bits bits.now) reference }
@@ -59,13 +54,7 @@ pub fn is_kept(heads: &[u64], word: u64) -> bool
 /// A root or a weak word after the collection: an immediate stays, and any other word that is not the address of a live
 /// object becomes null.
 #[inline(always)]
-pub fn settled_weak(
-    edition: Edition,
-    heads: &[u64],
-    bits: &[u64],
-    counts: &[u32],
-    word: u64,
-) -> u64
+pub fn settled_weak(edition: Edition, heads: &[u64], bits: &[u64], counts: &[u32], word: u64) -> u64
     requires offsets { AreOffsets bits.now counts.now }
     requires same { length heads.now ≡ length bits.now }
     ensures { result ≡ kept_by edition heads.now (set_bits bits.now) word }
@@ -81,13 +70,7 @@ pub fn settled_weak(
 }
 
 /// Makes these roots or weak words lead to where their objects are after the collection.
-pub fn settle_all(
-    edition: Edition,
-    heads: &[u64],
-    bits: &[u64],
-    counts: &[u32],
-    words: &mut [u64],
-)
+pub fn settle_all(edition: Edition, heads: &[u64], bits: &[u64], counts: &[u32], words: &mut [u64])
     requires offsets { AreOffsets bits.now counts.now }
     requires same { length heads.now ≡ length bits.now }
     ensures { words.new ≡ map (kept_by edition heads.now (set_bits bits.now)) words.old }

@@ -7,9 +7,9 @@ ghost use Rattle.rest_marks.specs.Meeting.{AreApart};
 ghost use Rattle.rest_marks.specs.Reached.{IsWordOf};
 ghost use Rattle.rest_marks.specs.declared.fault.MarksFault.TheVariants as refusal;
 
+use crate::bit_search::next_set;
 use crate::bits::take_run;
 use crate::fault::MarksFault;
-use crate::bit_search::next_set;
 use crate::forwarding::is_kept;
 use crate::marking::{references, weak_words};
 use crate::queue::check_leads;

@@ -7,8 +7,8 @@ ghost use Rattle.rest_marks.specs.Kept.{AreKeptIn};
 ghost use Rattle.rest_marks.specs.LiveBits.{AreLiveTo, IsLiveBlock};
 ghost use Rattle.rest_marks.specs.Reached.{IsWordOf};
 
-use crate::bits::take_run;
 use crate::bit_search::next_set;
+use crate::bits::take_run;
 use crate::shape::shape_of;
 use heap_layout::{Edition, is_set};
 use std::thread;

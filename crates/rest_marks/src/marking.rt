@@ -31,13 +31,7 @@ pub fn references(edition: Edition, words: &[u64], i: usize, refs: usize) -> &[u
 
 /// Its weak words.
 #[inline(always)]
-pub fn weak_words(
-    edition: Edition,
-    words: &[u64],
-    i: usize,
-    refs: usize,
-    weak: usize,
-) -> &[u64]
+pub fn weak_words(edition: Edition, words: &[u64], i: usize, refs: usize, weak: usize) -> &[u64]
     requires few { length words.now ≤ 2 ^ 31 }
     requires placed { IsPlaced edition words.now i }
     requires refs { refs ≡ refs_of (header_at edition words.now i) }

@@ -12,11 +12,11 @@ ghost use Rattle.heap_layout.specs.Heap.{header_at, IsPlaced};
 ghost use Rattle.rest_marks.specs.Reached.{IsReachedFrom};
 ghost use Rattle.rest_marks.specs.Rounds.{AreAllMarked, AreReaching, IsFoundPart, IsReachedBy};
 
-use crate::lookups::{found_among, found_by, meet_led, meet_parts, refs_at};
 use crate::asking::are_all_kept;
-use crate::live_bits::fill_by_threads;
-use crate::marking::references;
 use crate::given_marks::check_kept;
+use crate::live_bits::fill_by_threads;
+use crate::lookups::{found_among, found_by, meet_led, meet_parts, refs_at};
+use crate::marking::references;
 use heap_layout::Edition;
 use std::alloc::{AllocError, Global};
 use std::thread;

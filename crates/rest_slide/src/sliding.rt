@@ -8,8 +8,8 @@ ghost use Rattle.rest_slide.specs.Settled.{settled, settled_words};
 ghost use Rattle.rest_marks.specs.Starts.{AreStarts};
 ghost use Rattle.rest_marks.specs.Surveys.{told, AreTables};
 
-use rest_marks::{Shape, below, last_head, next_set, settled_reference, settled_weak, shape_of};
 use heap_layout::Edition;
+use rest_marks::{Shape, below, last_head, next_set, settled_reference, settled_weak, shape_of};
 
 /// Copies `count` words, from index `from` on, into the part, from its word `at` on.
 #[inline(always)]

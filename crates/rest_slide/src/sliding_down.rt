@@ -10,9 +10,9 @@ ghost use Rattle.rest_marks.specs.Looking.{led_to, kept_by};
 ghost use Rattle.rest_slide.specs.Settled.{settled_words};
 ghost use Rattle.rest_marks.specs.Surveys.{told, AreTables};
 
-use rest_marks::{Shape, next_set, settled_reference, settled_weak, shape_of};
 use crate::staying::{dense_words, stay};
 use heap_layout::Edition;
+use rest_marks::{Shape, next_set, settled_reference, settled_weak, shape_of};
 
 // Moves `count` references down, those from index `from` on to index `to`, and makes them lead to where their objects
 // are after the collection.
@@ -166,13 +166,7 @@ fn slide_down_object(
 
 /// Slides the live objects down: the first one to index 0, each behind the one before. The words behind them stay as
 /// they are.
-pub fn slide_down(
-    edition: Edition,
-    heads: &[u64],
-    bits: &[u64],
-    counts: &[u32],
-    words: &mut [u64],
-)
+pub fn slide_down(edition: Edition, heads: &[u64], bits: &[u64], counts: &[u32], words: &mut [u64])
     requires tables { AreTables edition words.old heads.now bits.now counts.now }
     ensures { words.new ≡ settled_words (live (told edition words.old heads.now)) ++ drop (live_words (live (told edition words.old heads.now))) words.old }
 {

@@ -5,8 +5,8 @@ ghost use Rattle.heap_layout.specs.Values.{is_immediate};
 ghost use Rattle.mark_tables.specs.MarkBitmap.{set_bits, AreOffsets};
 ghost use Rattle.rest_marks.specs.Looking.{led_to};
 
-use rest_marks::{first_unset, settled_reference};
 use heap_layout::{Edition, FROM_SPACE};
+use rest_marks::{first_unset, settled_reference};
 
 /// How many live words are below the first word that is not live.
 pub(crate) fn dense_words(bits: &[u64]) -> usize

@@ -10,9 +10,11 @@ ghost use Rattle.rest_marks.specs.Places.{found_in, led_by, led_words, words_now
 ghost use Rattle.rest_marks.specs.Starts.{AreStarts};
 ghost use Rattle.rest_marks.specs.Surveys.{marks_of, AreTables};
 
-use rest_marks::{Shape, SlideFault, below, is_last_before, last_head, leads_to, next_set, settled_weak, shape_of};
 use crate::sliding::copy_in;
 use heap_layout::{Edition, is_set};
+use rest_marks::{
+    Shape, SlideFault, below, is_last_before, last_head, leads_to, next_set, settled_weak, shape_of,
+};
 
 // Writes `count` words of the object at index `start` into the part, from its word `begin` on: those from the word
 // `from` of the object on, as they are after the collection. Err with the number of a word of the object that is a

@@ -8,9 +8,12 @@ ghost use Rattle.rest_marks.specs.Marks.{AllKept};
 ghost use Rattle.rest_marks.specs.Meeting.{AllLead, AreMet, AreOnce};
 ghost use Rattle.rest_marks.specs.Reached.{IsWordOf};
 
-use rest_marks::{CheckFault, check_kept, check_leads, first_unset, inverted, references, shape_of, take_run, weak_words};
 use crate::looks::Looks;
 use heap_layout::Edition;
+use rest_marks::{
+    CheckFault, check_kept, check_leads, first_unset, inverted, references, shape_of, take_run,
+    weak_words,
+};
 use std::alloc::Global;
 
 // Asks whether the object at index `i` is as it must be, and sets the bits of its words in `taken`, none of which may be

@@ -2,9 +2,9 @@
 ghost use Rattle.std.specs.Prelude.{◌≡◌, ◌<◌, ℕ, List, length, IfOk, IfErr, OnErr};
 ghost use Rattle.stopped_heap.specs.Collecting.{HasCollected, RefusesCollection};
 
-use rest_marks::CollectFault;
 use crate::survey::Survey;
 use heap_layout::Edition;
+use rest_marks::CollectFault;
 use std::alloc::Global;
 
 /// Collects the heap of these words and roots: slides what the roots reach to the beginning of `to`, and makes the

@@ -6,11 +6,11 @@ ghost use Rattle.stopped_heap.specs.Tables.{HaveRoom, RefusesLent};
 ghost use Rattle.rest_marks.specs.declared.fault.CollectFault.TheVariants as collect;
 ghost use Rattle.rest_marks.specs.declared.fault.SurveyFault.TheVariants as survey;
 
-use rest_slide::slide_part;
-use rest_marks::{CollectFault, CollectLentFault, SurveyFault, put_starts, settle_all};
 use crate::lending::fill;
 use crate::tables::Tables;
 use heap_layout::Edition;
+use rest_marks::{CollectFault, CollectLentFault, SurveyFault, put_starts, settle_all};
+use rest_slide::slide_part;
 
 // Collects the heap by these tables, in which there must be room.
 fn collect_in(

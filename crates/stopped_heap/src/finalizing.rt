@@ -16,10 +16,10 @@ ghost use Rattle.stopped_heap.specs.Ordered.{references_of_all, or_null, AreOrde
 ghost use Rattle.rest_marks.specs.Reached.{AreReached, IsHeapFaultOf, IsReachedFrom};
 ghost use Rattle.rest_marks.specs.declared.fault.SurveyFault.TheVariants as survey;
 
-use rest_marks::{SurveyFault, check_leads, references, shape_of};
 use crate::growing::{Growing, NotGrown};
 use crate::guarding::{part, push_lost};
 use heap_layout::{Edition, FROM_SPACE};
+use rest_marks::{SurveyFault, check_leads, references, shape_of};
 use std::alloc::Global;
 
 /// What is found of objects that wait.

@@ -9,9 +9,9 @@ ghost use Rattle.rest_marks.specs.Places.{Found, IsAsFound, IsFoundOf};
 ghost use Rattle.rest_marks.specs.Reached.{IsReachedFrom};
 ghost use Rattle.rest_marks.specs.Surveys.{marks_of};
 
-use rest_marks::{BitsFault, ByBitsFault, bit_past, check_kept, odd_word, offsets, starts_of};
 use crate::places::Places;
 use heap_layout::Edition;
+use rest_marks::{BitsFault, ByBitsFault, bit_past, check_kept, odd_word, offsets, starts_of};
 use std::alloc::Global;
 
 // Whether the bits and the roots are taken. It looks at no word of the heap.

@@ -11,12 +11,12 @@ ghost use Rattle.rest_marks.specs.Surveys.{marks_of};
 ghost use Rattle.stopped_heap.specs.Tables.{IsLentFaultOf};
 ghost use Rattle.rest_marks.specs.declared.fault.SurveyFault.TheVariants as survey;
 
-use rest_marks::{LentFault, SurveyFault, leads_to, mark_in, put_offsets, put_starts};
 use crate::ephemerons::keep_values;
 use crate::lending::clear;
 use crate::survey::Survey;
 use crate::tables::{NotSurveyed, Tables};
 use heap_layout::Edition;
+use rest_marks::{LentFault, SurveyFault, leads_to, mark_in, put_offsets, put_starts};
 use std::alloc::Global;
 use std::marker::Model;
 

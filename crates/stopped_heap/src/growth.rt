@@ -6,12 +6,12 @@ ghost use Rattle.rest_marks.specs.Places.{IsFoundOf};
 ghost use Rattle.rest_marks.specs.Reached.{IsFaultOf};
 ghost use Rattle.stopped_heap.specs.Tables.{IsLentFaultOf};
 
-use rest_marks::{SurveyFault, leads_to, put_offsets, put_starts};
 use crate::ephemerons::keep_values;
 use crate::growing::{Growing, NotGrown, grow_in};
 use crate::places::Places;
 use crate::tables::{NotSurveyed, Tables};
 use heap_layout::Edition;
+use rest_marks::{SurveyFault, leads_to, put_offsets, put_starts};
 use std::alloc::Global;
 use std::marker::Model;
 

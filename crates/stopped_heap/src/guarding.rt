@@ -7,10 +7,10 @@ ghost use Rattle.rest_marks.specs.Growing.{roots_on};
 ghost use Rattle.stopped_heap.specs.Guarded.{is_lost, numbered, AreHeldFrom, AreParted, IsGuardedFaultOf, IsOnFaultOf};
 ghost use Rattle.rest_marks.specs.declared.fault.SurveyFault.TheVariants as survey;
 
-use rest_marks::{SurveyFault, check_leads};
 use crate::growing::Growing;
 use crate::survey::Survey;
 use heap_layout::Edition;
+use rest_marks::{SurveyFault, check_leads};
 use std::alloc::{AllocError, Global};
 
 /// What is found with guarded words.

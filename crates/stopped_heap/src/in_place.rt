@@ -7,12 +7,12 @@ ghost use Rattle.rest_marks.specs.Surveys.{marks_of, AreTables};
 ghost use Rattle.stopped_heap.specs.Tables.{HaveRoom, IsLentFaultOf};
 ghost use Rattle.rest_marks.specs.declared.fault.SurveyFault.TheVariants as survey;
 
-use rest_slide::slide_down;
-use rest_marks::{LentFault, SurveyFault, settle_all};
 use crate::lending::fill;
 use crate::making::tables_of;
 use crate::tables::Tables;
 use heap_layout::Edition;
+use rest_marks::{LentFault, SurveyFault, settle_all};
+use rest_slide::slide_down;
 use std::alloc::Global;
 
 // Slides what these tables have down to the beginning of the words, and makes the roots lead there. Answers the number

@@ -6,8 +6,8 @@ ghost use Rattle.heap_layout.specs.Limits.{most_words};
 ghost use Rattle.rest_marks.specs.Lanes.{AreKnownMore, AreLanedIn, IsBeginFault, IsLaneMeetFault, IsLedTo, IsTold};
 ghost use Rattle.rest_marks.specs.Marks.{AllKept};
 
-use rest_marks::{Claims, MeetFault, Stop, SurveyFault, meet_known};
 use heap_layout::Edition;
+use rest_marks::{Claims, MeetFault, Stop, SurveyFault, meet_known};
 use std::alloc::{AllocError, Global};
 use std::marker::Model;
 use std::sync::Arc;

@@ -7,10 +7,10 @@ ghost use Rattle.rest_marks.specs.Looks.{AreLooked};
 ghost use Rattle.rest_marks.specs.Meeting.{AreMet, AreOnce};
 ghost use Rattle.rest_marks.specs.declared.fault.JoinFault.TheVariants as join;
 
-use rest_marks::{JoinFault, MeetFault, Missing, clear, first_common, first_missing, united};
 use crate::lane::Lane;
 use crate::looks::Looks;
 use heap_layout::{is_set, set};
+use rest_marks::{JoinFault, MeetFault, Missing, clear, first_common, first_missing, united};
 use std::alloc::AllocError;
 
 // Copies the last objects of the queue into `indices`, from number `first` of the queue on, of which there must not be

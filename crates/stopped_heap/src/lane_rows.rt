@@ -5,9 +5,9 @@ ghost use Rattle.rest_marks.specs.Lanes.{laned, IsLaneAfterRows, IsLaneRowsFault
 ghost use Rattle.rest_marks.specs.Looks.{rows_of, AreLookedAt, AreRowsAt};
 ghost use Rattle.rest_marks.specs.Meeting.{AreMet, AreOnce};
 
-use rest_marks::{Claims, LookFault, look_known, row_at};
 use crate::lane::Lane;
 use heap_layout::Edition;
+use rest_marks::{Claims, LookFault, look_known, row_at};
 
 // Looks at the objects of the queue from number `first` on, one for each row, and answers the number of the one behind
 // them.

@@ -8,8 +8,8 @@ ghost use Rattle.stopped_heap.specs.Tables.{HaveRoom};
 ghost use Rattle.rest_marks.specs.declared.fault.MarksFault.TheVariants as refusal;
 ghost use Rattle.rest_marks.specs.declared.fault.SurveyFault.TheVariants as survey;
 
-use rest_marks::{MarksFault, SurveyFault, check_kept, mark_with, put_offsets, take_marks};
 use heap_layout::Edition;
+use rest_marks::{MarksFault, SurveyFault, check_kept, mark_with, put_offsets, take_marks};
 
 /// So many blocks, in which no bit is set. There must be room for them.
 pub(crate) fn clear(bits: &mut Vec<u64>, blocks: usize)

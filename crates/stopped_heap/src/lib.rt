@@ -17,7 +17,8 @@
 //! was written to is looked at again, no part that slides is refused. Several markers look at a heap each in a `Lane`
 //! of its own; lanes are joined at the end.
 //!
-//! `Places::live_bits`, `next_set` and `shape_of` are for crates that slide in a way of their own.
+//! `Places::live_bits` is for crates that slide in a way of their own. What lives is found in rest_marks, and where it
+//! goes in rest_slide.
 //!
 //! A root that is not handed in is lost. The addresses before and after a collection are numbers of one range, so one
 //! that was kept elsewhere, or is forwarded twice, may be that of another object. During a call no other thread may
@@ -25,20 +26,15 @@
 //!
 //! The modules, in the order in which to read them:
 //!
-//! - `shape`, `bits`, `offsets`, `starts`, `finding`: what a header says, and bits of words.
-//! - `fault`: why something is refused.
-//! - `meeting`, `following`, `marking`: what the roots reach.
-//! - `forwarding`, `marks`: where words lead afterwards; marks of the caller's own.
-//! - `sliding`, `staying`, `sliding_down`, `trying`: the slide, elsewhere, in place, and out of words that changed.
 //! - `making`, `lending`, `tables`: the tables of a survey.
 //! - `survey`, `places`: what was found, with the words and without them.
 //! - `collecting`, `collecting_lent`, `in_place`: whole collections.
-//! - `live_bits`, `found`, `kept`, `rounds`, `survey_by_threads`, `threads`: the same by several threads.
+//! - `survey_by_threads`, `threads`: the same by several threads.
 //! - `growing`, `growth`, `regrowing`: surveys that grow, with the words and without them.
 //! - `ephemerons`, `guarding`, `finalizing`: values kept by their keys, guardians, and finalizers.
-//! - `runs`, `given`: bits of the caller's own.
-//! - `looking_at`, `looking_rows`, `looks`, `checking`: a marking while the threads of the heap go on.
-//! - `claims`, `lane_meeting`, `lane`, `lane_looking`, `lane_rows`, `lane_bits`, `lane_joining`: the same by several.
+//! - `given`: bits of the caller's own.
+//! - `looks`, `checking`: a marking while the threads of the heap go on.
+//! - `lane`, `lane_rows`, `lane_joining`: the same by several.
 //! - `laws`, `tidied`: what follows of the clauses.
 #![tactic(auto)]
 
@@ -78,10 +74,18 @@ pub use growth::{Growth, NotGrowth};
 pub use guarding::{Guarded, survey_guarded};
 pub use in_place::{collect_in_place, collect_in_place_lent};
 pub use lane::Lane;
-pub use laws::{accepted_is_sound, collected_is_accepted, collected_is_one, collected_is_reached, collected_is_slid, found_has_no_fault, led_is_settled, parts_are_whole, reached_is_marked, reached_is_one, sound_has_no_fault, steps_are_one, words_now_are_settled};
+pub use laws::{
+    accepted_is_sound, collected_is_accepted, collected_is_one, collected_is_reached,
+    collected_is_slid, found_has_no_fault, led_is_settled, parts_are_whole, reached_is_marked,
+    reached_is_one, sound_has_no_fault, steps_are_one, words_now_are_settled,
+};
 pub use looks::{Looks, clean_is_same, same_is_looked};
 pub use places::{LiveBits, Places};
-pub use rest_marks::{Ahead, BitsFault, ByBitsFault, CheckFault, CollectFault, CollectLentFault, FinishFault, JoinFault, LentFault, LookFault, MarksFault, MarksLentFault, MeetFault, Missing, Shape, SlideFault, SurveyFault, WIDE, next_set, shape_of};
+pub use rest_marks::{
+    Ahead, BitsFault, ByBitsFault, CheckFault, CollectFault, CollectLentFault, FinishFault,
+    JoinFault, LentFault, LookFault, MarksFault, MarksLentFault, MeetFault, Missing, Shape,
+    SlideFault, SurveyFault, WIDE, next_set, shape_of,
+};
 pub use survey::Survey;
 pub use tables::{NotSurveyed, NotTaken, Tables};
 pub use threads::collect_by_threads;

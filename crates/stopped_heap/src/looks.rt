@@ -12,9 +12,12 @@ ghost use Rattle.rest_marks.specs.Marks.{AllKept};
 ghost use Rattle.rest_marks.specs.Places.{IsFoundOf};
 ghost use Rattle.rest_marks.specs.Reached.{IsFaultOf, IsWordOf};
 
-use rest_marks::{FinishFault, LookFault, MeetFault, Stop, SurveyFault, look_again_at, look_at, look_each, meet_all};
 use crate::places::Places;
 use heap_layout::{Edition, is_set};
+use rest_marks::{
+    FinishFault, LookFault, MeetFault, Stop, SurveyFault, look_again_at, look_at, look_each,
+    meet_all,
+};
 use std::alloc::Global;
 use std::marker::Model;
 

@@ -3,8 +3,8 @@ ghost use Rattle.std.specs.Prelude.{◌≡◌, ◌+◌, ◌/◌, length, IfOk, I
 ghost use Rattle.rest_marks.specs.Reached.{AreReached, IsSound, IsFaultOf};
 ghost use Rattle.rest_marks.specs.Surveys.{marks_of, AreTables};
 
-use rest_marks::{SurveyFault, mark, offsets};
 use heap_layout::Edition;
+use rest_marks::{SurveyFault, mark, offsets};
 use std::alloc::Global;
 
 /// What a survey keeps: the bits of the first words of the live objects, those of all their words, and the offsets of

@@ -6,10 +6,10 @@ ghost use Rattle.rest_marks.specs.Places.{led_by, words_now, IsAsFound, IsSlideF
 ghost use Rattle.rest_marks.specs.Surveys.{marks_of};
 ghost use Rattle.rest_marks.specs.declared.fault.SlideFault.TheVariants as slide;
 
-use rest_slide::try_slide_part;
-use rest_marks::{SlideFault, check_kept, settle_all};
 use crate::tables::Tables;
 use heap_layout::Edition;
+use rest_marks::{SlideFault, check_kept, settle_all};
+use rest_slide::try_slide_part;
 use std::marker::Model;
 
 /// The tables of a survey, to be read: a bit for each word, 64 of them in each block.

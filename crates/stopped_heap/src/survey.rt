@@ -10,13 +10,16 @@ ghost use Rattle.rest_marks.specs.Marks.{IsMarksFaultOf};
 ghost use Rattle.rest_marks.specs.Places.{IsFoundOf};
 ghost use Rattle.stopped_heap.specs.Tables.{IsLentFaultOf, IsMarksLentFaultOf};
 
-use rest_slide::slide_part;
-use rest_marks::{LentFault, MarksFault, MarksLentFault, SurveyFault, below, check_kept, is_kept, offsets, put_starts, settle_all, starts_of, take_marks};
 use crate::lending::{fill, fill_by_marks};
 use crate::making::{Found, tables_of};
 use crate::places::Places;
 use crate::tables::{NotSurveyed, NotTaken, Tables};
 use heap_layout::{Edition, FROM_SPACE};
+use rest_marks::{
+    LentFault, MarksFault, MarksLentFault, SurveyFault, below, check_kept, is_kept, offsets,
+    put_starts, settle_all, starts_of, take_marks,
+};
+use rest_slide::slide_part;
 use std::alloc::Global;
 use std::marker::Model;
 

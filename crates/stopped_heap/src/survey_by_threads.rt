@@ -3,9 +3,9 @@ ghost use Rattle.std.specs.Prelude.{◌≡◌, ◌<◌, IfErr, IfOk};
 ghost use Rattle.rest_marks.specs.Reached.{AreReached, IsFaultOf, IsSound};
 ghost use Rattle.rest_marks.specs.Surveys.{with_roots};
 
-use rest_marks::{MAX_WORKERS, SurveyFault, mark_by_threads, offsets, starts_of};
 use crate::survey::Survey;
 use heap_layout::Edition;
+use rest_marks::{MAX_WORKERS, SurveyFault, mark_by_threads, offsets, starts_of};
 use std::alloc::{AllocError, Global};
 use std::thread::Threads;
 

@@ -6,9 +6,9 @@ ghost use Rattle.stopped_heap.specs.Collecting.{HasCollected, RefusesCollection}
 ghost use Rattle.rest_slide.specs.Settled.{settled_words};
 ghost use Rattle.rest_marks.specs.Surveys.{heap_of};
 
-use rest_marks::{CollectFault, MAX_WORKERS};
 use crate::survey::Survey;
 use heap_layout::Edition;
+use rest_marks::{CollectFault, MAX_WORKERS};
 use std::alloc::Global;
 use std::thread;
 use std::thread::Threads;

@@ -1,7 +1,7 @@
 use Rattle.std.proofs.Common.{◌∙◌, IfSome, Option, Some, ap, subst, sym}
 use Rattle.std.proofs.lemmas.Option.{IfSome_then}
 use Rattle.heap_layout.specs.Heap.{Heap}
-use Rattle.comp_handle.specs.declared.kept.Kept.{Kept}
+use Rattle.handle_base.specs.declared.kept.Kept.{Kept}
 use Rattle.proved_crews.specs.Crews.{IsFollowed}
 use Rattle.proved_crews.proofs.lives.cycle.Goals as goal
 use Rattle.proved_crews.proofs.lives.cycle.Goals.{then-turn, else-turn}

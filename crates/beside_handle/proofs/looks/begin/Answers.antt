@@ -1,0 +1,20 @@
+use Rattle.std.proofs.Common.{rules, ℕ, ◌≤◌, inl, inr, subst, sym, ◌∙◌}
+use Rattle.heap_layout.specs.Limits.{most_object_words, most_words}
+use Rattle.rest_marks.specs.declared.fault.SurveyFault.TheVariants as survey
+use Rattle.beside_handle.proofs.looks.begin.Goals as goal
+
+pub returns-else-keep : goal.returns-else-keep
+returns-else-keep c =
+    let long : most_words c.args.edition ≤ most_object_words c.args.edition = search rules in
+    let few = c.in-Ok.ensures.few in
+    inl (
+      long,
+      inr (
+        c.if-keep.ensures ∙ c.requires,
+        (
+          survey.OutOfMemory,
+          c.unsurveyed.ensures,
+          λ words e. (subst (λ (n : ℕ). n ≤ most_words c.args.edition) (sym e) few.0, few.1),
+        ),
+      ),
+    )

@@ -1,6 +1,0 @@
-use Rattle.std.proofs.Common.{inr, refl, ◌∙◌}
-use Rattle.rest_marks.specs.declared.fault.SurveyFault.TheVariants as survey
-use Rattle.comp_handle.proofs.helping.begin.Goals as goal
-
-pub returns-else-keep : goal.returns-else-keep
-returns-else-keep c = inr (c.if-keep.ensures ∙ c.requires, (survey.OutOfMemory, c.unsurveyed.ensures, (inr refl, c.in-Ok.ensures.few)))

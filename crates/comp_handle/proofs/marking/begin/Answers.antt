@@ -1,7 +1,0 @@
-use Rattle.std.proofs.Common.{ap, inl}
-use Rattle.comp_handle.specs.HandleKinds.{marking_in}
-use Rattle.comp_handle.specs.Knowing.{knowing}
-use Rattle.comp_handle.proofs.marking.begin.Goals as goal
-
-pub returns-then-keep : goal.returns-then-keep
-returns-then-keep c = inl (knowing c.in-Ok.marker, ap marking_in c.if-keep.ensures, c.in-Ok.ensures.begun, c.in-Ok.ensures.knows, c.done.ensures)

@@ -1,0 +1,2 @@
+mod Dumps
+mod Lengths

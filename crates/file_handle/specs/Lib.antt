@@ -1,0 +1,5 @@
+pub mod Imaging
+pub mod Dumping
+pub mod Judging
+pub mod Telling
+pub mod Moves

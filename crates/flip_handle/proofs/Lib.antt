@@ -1,0 +1,6 @@
+mod Called
+mod Refusing
+mod Counts
+mod Rests
+mod Joined
+mod Taken

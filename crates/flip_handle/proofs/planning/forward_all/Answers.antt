@@ -1,0 +1,34 @@
+use Rattle.std.proofs.Common.{ℕ, ◌<◌, length, get_or, set, map, inl, inr, sym, ap, ◌∙◌, arith, get_or-set_same, get_or-set_other}
+use Rattle.std.proofs.lemmas.Bool.{cases_eq}
+use Rattle.std.proofs.lemmas.Grind.{same_number_lists}
+use Rattle.std.proofs.lemmas.List.{length-map, length-set, get_or-map as read_map}
+use Rattle.flip_handle.specs.Planning.{led_by_plan}
+use Rattle.flip_handle.proofs.planning.forward_all.Goals as goal
+
+pub loop-k-preserved : goal.loop-k-preserved
+loop-k-preserved c =
+    let k = c.loop-k.k in
+    let old = c.loop-k.addresses in
+    let value = c.led.result in
+    let lead = led_by_plan c.args.plan.now in
+    record {
+      long = length-set old k value ∙ c.loop-k.invariant.long;
+      done = λ j lt. elim (cases_eq j k) [
+        | inl same ↦
+            ap (λ (n : ℕ). get_or (set old k value) n 0) same
+            ∙ get_or-set_same old k value 0 (omega (arith, c.loop-k-test.true, c.loop-k.invariant.long))
+            ∙ c.led.ensures ∙ ap lead (c.loop-k.invariant.rest k (omega arith) ∙ ap (λ (n : ℕ). get_or c.args.addresses.now n 0) (sym same))
+        | inr other ↦ get_or-set_other old k j value 0 other ∙ c.loop-k.invariant.done j (omega (arith, lt, other))
+      ];
+      rest = λ j above. get_or-set_other old k j value 0 (λ same. omega (arith, same, above)) ∙ c.loop-k.invariant.rest j (omega (arith, above));
+    }
+
+pub returns : goal.returns
+returns c =
+    let lead = led_by_plan c.args.plan.now in
+    let long = length-map c.args.addresses.now lead in (
+      c.done.ensures,
+      same_number_lists c.loop-k.addresses (map lead c.args.addresses.now) (omega (arith, long, c.loop-k.invariant.long)) (λ j lt.
+          let within : j < length c.args.addresses.now = omega (arith, lt, c.loop-k.invariant.long) in
+          c.loop-k.invariant.done j (omega (arith, within, c.loop-k-test.false)) ∙ sym (read_map lead c.args.addresses.now j 0 0 within)),
+    )

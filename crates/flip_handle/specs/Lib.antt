@@ -1,0 +1,9 @@
+pub mod Calling
+pub mod Turning
+pub mod Crewing
+pub mod Facts
+pub mod Planning
+pub mod Ending
+pub mod Settling
+pub mod Joining
+pub mod Seeing

@@ -1,0 +1,4 @@
+mod Words
+mod Whys
+mod Crossing
+pub mod TurnedKept

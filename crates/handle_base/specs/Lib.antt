@@ -1,0 +1,10 @@
+pub mod Paged
+pub mod Knowing
+pub mod Keeping
+pub mod Held
+pub mod Statuses
+pub mod Answers
+pub mod HandleKinds
+pub mod Making
+pub mod Sharing
+pub mod Copying

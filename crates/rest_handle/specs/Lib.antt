@@ -1,0 +1,9 @@
+pub mod Resting
+pub mod ByBits
+pub mod Lending
+pub mod Helping
+pub mod Guarding
+pub mod Growing
+pub mod Young
+pub mod Raising
+pub mod Pinning
