@@ -2,7 +2,7 @@
 ghost use Rattle.std.specs.Prelude.{◌≤◌};
 
 use crate::large_dump_bytes::{MANY_SWEPT, MANY_WRITTEN, MIXED_TOUCHED};
-use heap_layout::{FROM_SPACE as F, TO_SPACE as T};
+use heap_layout::{FROM_SPACE as F, Header, TO_SPACE as T};
 use std::alloc::{AllocError, Global};
 use std::process::Abort;
 
@@ -14,6 +14,12 @@ pub enum Part {
     Fours(&'static [u64]),
     /// Numbers of 8 bytes each.
     Eights(&'static [u64]),
+    /// The header, in edition one, of an object with this many references and data words and this tag, and words after
+    /// it.
+    Fields(u16, u16, u32, &'static [u64]),
+    /// The header, in edition two, of an object with this many references, weak words and data words and this tag, and
+    /// words after it.
+    WeakFields(u16, u16, u16, u16, &'static [u64]),
     /// This many bytes 0.
     Zeros(usize),
     /// This many pages that were built, have no entries, and whose words are 0.
@@ -23,6 +29,7 @@ pub enum Part {
 }
 
 /// A dump that is encoded by hand.
+#[derive(Drop)]
 pub enum Whole {
     /// The dump of the empty heap and two mutators, all bytes by hand: 44 bytes.
     Nothing,
@@ -63,6 +70,15 @@ pub enum Whole {
 #[derive(Clone, Copy)]
 pub struct Change(pub usize, pub usize, pub usize, pub u64);
 
+/// A list of builds of one page, page 1.
+pub const PAGE_1: u64 = 1 + (1 << 32);
+
+/// The beginning of a list of builds of three pages, page 1 and two others.
+pub const PAGE_1_AND_TWO: u64 = 3 + (1 << 32);
+
+/// Page 0 and page 2 in a list of builds.
+pub const PAGES_0_AND_2: u64 = 2 << 32;
+
 /// A count that reaches to the end of the dump.
 pub const REST: usize = usize::MAX;
 
@@ -87,7 +103,7 @@ static SMALLEST: [Part; 8] = [
     Part::Fours(&[1, 1, 0, 1, 1]),
     Part::Eights(&[T]),
     BUILT,
-    Part::Eights(&[30_064_771_072]),
+    Part::Fields(0, 0, 7, &[]),
     Part::Zeros(504 + 4),
     Part::Fours(&[1, 0]),
     Part::Eights(&[1]),
@@ -105,12 +121,13 @@ static TOUCHED: [Part; 8] = [
     Part::Bytes(&[1, 0, 0, 0, 0, 0, 0, 0]),
 ];
 
-static LINKED: [Part; 19] = [
+static LINKED: [Part; 20] = [
     MAGIC,
     Part::Fours(&[1, 1, 2, 3, 1]),
     Part::Eights(&[T + 2]),
     BUILT,
-    Part::Eights(&[4_295_032_832, 11, 12_884_901_889, T + 64]),
+    Part::Fields(0, 1, 1, &[11]),
+    Part::Fields(1, 0, 3, &[T + 64]),
     Part::Zeros(480),
     Part::Fours(&[1]),
     Part::Eights(&[1]),
@@ -128,12 +145,13 @@ static LINKED: [Part; 19] = [
     Part::Eights(&[5]),
 ];
 
-static PUT: [Part; 13] = [
+static PUT: [Part; 14] = [
     MAGIC,
     Part::Fours(&[1, 2, 64, 65, 1]),
     Part::Eights(&[T + 2]),
     BUILT,
-    Part::Eights(&[4_295_032_832, 7, 12_884_901_889, T]),
+    Part::Fields(0, 1, 1, &[7]),
+    Part::Fields(1, 0, 3, &[T]),
     Part::Zeros(480),
     Part::Fours(&[1]),
     Part::Eights(&[0]),
@@ -145,12 +163,13 @@ static PUT: [Part; 13] = [
 ];
 
 // The number that was written is at byte 45.
-static ADDRESS: [Part; 12] = [
+static ADDRESS: [Part; 13] = [
     MAGIC,
     Part::Fours(&[1, 1, 0, 1, 1]),
     Part::Eights(&[T + 2]),
     BUILT,
-    Part::Eights(&[4_295_032_832, F, 12_884_901_889, T]),
+    Part::Fields(0, 1, 1, &[F]),
+    Part::Fields(1, 0, 3, &[T]),
     Part::Zeros(480),
     Part::Fours(&[1]),
     Part::Eights(&[0]),
@@ -165,33 +184,34 @@ static WEAK_TOUCHED: [Part; 9] = [
     Part::Fours(&[2, 1, 0, 1, 1]),
     Part::Eights(&[T + 4]),
     BUILT,
-    Part::Eights(&[281_483_566_710_784, 0, T + 4, 9]),
-    Part::Eights(&[844_424_930_131_969, T]),
+    Part::WeakFields(0, 2, 1, 1, &[0, T + 4, 9]),
+    Part::WeakFields(1, 0, 0, 3, &[T]),
     Part::Zeros(464 + 4),
     Part::Fours(&[1, 0]),
     Part::Eights(&[6]),
 ];
 
 // The weak word of the first object is at byte 45, and that of the new object at byte 581.
-static WEAK_LINKED: [Part; 22] = [
+static WEAK_LINKED: [Part; 23] = [
     MAGIC,
     Part::Fours(&[2, 1, 1, 2, 1]),
     Part::Eights(&[T + 4]),
     BUILT,
-    Part::Eights(&[281_483_566_710_784, T + 64, T + 4, 9]),
-    Part::Eights(&[844_424_930_131_969, T]),
+    Part::WeakFields(0, 2, 1, 1, &[T + 64, T + 4, 9]),
+    Part::WeakFields(1, 0, 0, 3, &[T]),
     Part::Zeros(464),
     Part::Fours(&[1]),
     Part::Eights(&[1]),
     Part::Bytes(&[0, 3, 1]),
     Part::Eights(&[T + 64]),
     BUILT,
-    Part::Eights(&[1_407_379_178_520_576, T]),
+    Part::WeakFields(0, 1, 0, 5, &[T]),
     Part::Zeros(496),
     Part::Fours(&[2]),
     Part::Eights(&[0]),
     Part::Bytes(&[0, 0, 0]),
-    Part::Eights(&[1_407_379_178_520_576, 2]),
+    Part::WeakFields(0, 1, 0, 5, &[]),
+    Part::Eights(&[2]),
     Part::Bytes(&[0, 3, 1]),
     Part::Eights(&[T]),
     // The list of builds: 2 pages, page 1 and page 0.
@@ -200,7 +220,7 @@ static WEAK_LINKED: [Part; 22] = [
 ];
 
 // The rest of a page without entries: the header of an object of 640 words and zeros, or zeros alone.
-const BEGUN: Part = Part::Eights(&[41_877_504]);
+const BEGUN: Part = Part::Fields(0, 639, 0, &[]);
 
 const NO_MORE: Part = Part::Zeros(504 + 4);
 
@@ -266,6 +286,12 @@ fn put_numbers(bytes: &mut Vec<u8>, width: usize, numbers: &[u64]) -> Result<(),
     Ok(())
 }
 
+// Appends a header and the words after it.
+fn put_object(bytes: &mut Vec<u8>, header: Header, words: &[u64]) -> Result<(), AllocError> {
+    put_numbers(bytes, 8, &[header.word()])?;
+    put_numbers(bytes, 8, words)
+}
+
 // Appends the records of `count` pages without entries, whose words are 0.
 fn put_blank(bytes: &mut Vec<u8>, count: u32) -> Result<(), AllocError> {
     for _ in 0..count {
@@ -289,6 +315,12 @@ fn put_part(bytes: &mut Vec<u8>, part: &Part) -> Result<(), AllocError> {
         Part::Bytes(some) => bytes.extend_from_slice(some),
         Part::Fours(numbers) => put_numbers(bytes, 4, numbers),
         Part::Eights(numbers) => put_numbers(bytes, 8, numbers),
+        Part::Fields(refs, data, tag, words) => {
+            put_object(bytes, Header::new(*refs, *data, *tag), words)
+        }
+        Part::WeakFields(refs, weak, data, tag, words) => {
+            put_object(bytes, Header::new_weak(*refs, *weak, *data, *tag), words)
+        }
         Part::Zeros(count) => bytes.resize(bytes.len().saturating_add(*count), 0),
         Part::Blank(count) => put_blank(bytes, *count),
         Part::Builds(count, words) => put_builds(bytes, *count, *words),

@@ -6,9 +6,9 @@ use crate::expected::expect_eq;
 use crate::large_dump_bytes::{DATA, FRESH, WEAK};
 use comp_audit::Dump;
 use comp_journal::Entry;
-use heap_layout::Kind;
+use heap_layout::{Header, Kind};
 use std::process::Abort;
-use test_support::{At, F, T, Worked};
+use test_support::{At, F, T, Worked, page_words};
 
 static RUNS: [DumpedRun; 11] = [
     // The empty heap, and two mutators that do nothing.
@@ -198,97 +198,40 @@ fn dumps_of_worked_heaps_have_these_bytes(rt: HostRuntime) {
     }
 }
 
-const STORED: Entry = Entry {
+static STORED: [Entry; 1] = [Entry {
     stamp: 1,
     writer: 0,
     kind: Kind::Reference,
     offset: 3,
     value: T + 64,
-};
+}];
 
-const STORED_WORDS: [u64; 64] = [
-    4_295_032_832,
-    11,
-    12_884_901_889,
-    T + 64,
-    0,
-    0,
-    0,
-    0,
-    0,
-    0,
-    0,
-    0,
-    0,
-    0,
-    0,
-    0,
-    0,
-    0,
-    0,
-    0,
-    0,
-    0,
-    0,
-    0,
-    0,
-    0,
-    0,
-    0,
-    0,
-    0,
-    0,
-    0,
-    0,
-    0,
-    0,
-    0,
-    0,
-    0,
-    0,
-    0,
-    0,
-    0,
-    0,
-    0,
-    0,
-    0,
-    0,
-    0,
-    0,
-    0,
-    0,
-    0,
-    0,
-    0,
-    0,
-    0,
-    0,
-    0,
-    0,
-    0,
-    0,
-    0,
-    0,
-    0,
-];
+// The words of page 0 that are not 0, which come first.
+fn stored_words() -> [u64; 4] {
+    [
+        Header::new(0, 1, 1).word(),
+        11,
+        Header::new(1, 0, 3).word(),
+        T + 64,
+    ]
+}
 
-const MADE: Entry = Entry {
+static MADE: [Entry; 1] = [Entry {
     stamp: 0,
     writer: 0,
     kind: Kind::Header,
     offset: 0,
     value: 0,
-};
-
-const NO_WORDS: [u64; 64] = [0; 64];
+}];
 
 // The words and the journal of each page.
-static LINKED_PAGES: [Option<PageParts<'static>>; 3] = [
-    Some((STORED_WORDS, &[STORED])),
-    Some((NO_WORDS, &[MADE])),
-    None,
-];
+fn linked_pages() -> [Option<PageParts<'static>>; 3] {
+    [
+        Some((page_words(&stored_words()), &STORED)),
+        Some((page_words(&[]), &MADE)),
+        None,
+    ]
+}
 
 /// Checks the dump of the three objects, of which the last refers to a new one on the first of two fresh pages. Its one
 /// list of builds has page 1 and page 0.
@@ -302,7 +245,7 @@ pub fn expect_linked(rt: &impl Abort, dump: &Dump<'_>) {
         built.as_slice(),
         [1, 0].as_slice(),
     );
-    for (page, wanted) in LINKED_PAGES.iter().enumerate() {
+    for (page, wanted) in linked_pages().iter().enumerate() {
         expect_eq(rt, At::new("page", page), page_parts(dump, page), *wanted);
     }
 }

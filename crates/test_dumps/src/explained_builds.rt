@@ -1,5 +1,5 @@
 //! What is said of a build that is not claimed once. All numbers are worked by hand.
-use crate::dump_bytes::{Change, Whole, changed};
+use crate::dump_bytes::{Change, PAGE_1, PAGE_1_AND_TWO, PAGES_0_AND_2, Whole, changed};
 use crate::dumps_in_memory::read;
 use crate::expected::expect_eq;
 use crate::explained_faults::explained;
@@ -47,7 +47,7 @@ static CLAIMED: [ClaimedBuild; 5] = [
     // The list names page 1 alone.
     ClaimedBuild(
         Whole::Linked,
-        &[Change(BUILDS, 12, 8, 4_294_967_297)],
+        &[Change(BUILDS, 12, 8, PAGE_1)],
         Naming {
             is_built: true,
             page: 0,
@@ -59,8 +59,8 @@ static CLAIMED: [ClaimedBuild; 5] = [
     ClaimedBuild(
         Whole::Linked,
         &[
-            Change(BUILDS, 12, 8, 4_294_967_299),
-            Change(BUILDS + 12, 0, 8, 8_589_934_592),
+            Change(BUILDS, 12, 8, PAGE_1_AND_TWO),
+            Change(BUILDS + 12, 0, 8, PAGES_0_AND_2),
         ],
         Naming {
             is_built: false,
@@ -72,7 +72,7 @@ static CLAIMED: [ClaimedBuild; 5] = [
     ClaimedBuild(
         Whole::Linked,
         &[
-            Change(BUILDS, 12, 8, 4_294_967_299),
+            Change(BUILDS, 12, 8, PAGE_1_AND_TWO),
             Change(BUILDS + 12, 0, 8, 0),
         ],
         Naming {

@@ -236,7 +236,7 @@ static BAD_ENTRIES: [ExplainedDump; 11] = [
             cause: EntryCause::OtherWord(Some(Kind::Reference)),
         })),
     ),
-    // A reference into an object, and T over it: the kind is 1, the offset 3, and T * 2^24 is 2^57.
+    // A reference into an object, and T over it: the writer is 0, the kind 1, the offset 3.
     ExplainedDump(
         Whole::Linked,
         &[
@@ -245,7 +245,7 @@ static BAD_ENTRIES: [ExplainedDump; 11] = [
             Change(REFERENCE_STAMP, 8, 8, 0),
             Change(REFERENCE_VALUE, 8, 8, T + 1),
             Change(REFERENCE_END, 0, 8, 1),
-            Change(REFERENCE_END, 0, 11, 144_115_188_076_052_736),
+            Change(REFERENCE_END, 0, 11, (1 << 8) + (3 << 16) + (T << 24)),
             NONE_ON_1,
         ],
         Some(Explanation::BadEntry(BadEntryAt {

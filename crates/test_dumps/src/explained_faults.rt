@@ -9,7 +9,7 @@ use comp_audit::{
     Dump, DumpCounts, Explanation, HeadCause, OutOfPlace, RootAt, SlidObject, StampLost, StampUses,
     Totals, Verdict, WrongWordAt, audit, count, explain,
 };
-use heap_layout::Edition;
+use heap_layout::{Edition, Header};
 use page_plan::Plan;
 use std::alloc::Global;
 use std::process::Abort;
@@ -19,6 +19,7 @@ use test_support::{
 };
 
 /// A dump, the changes of it, and what is said of its first fault; None if it has none.
+#[derive(Drop)]
 pub struct ExplainedDump(pub Whole, pub &'static [Change], pub Option<Explanation>);
 
 // Positions in the dump after a new object: the number of fresh pages, the number of roots, the header of the last
@@ -32,81 +33,36 @@ const SLID_HEADER: usize = 53;
 const NEW_WORD_5: usize = 613;
 
 // The first marked object after the slide.
-const FIRST: SlidObject = SlidObject {
-    number: 0,
-    index: 0,
-    address: T,
-    header: 4_295_032_832,
-};
+fn first() -> SlidObject {
+    SlidObject {
+        number: 0,
+        index: 0,
+        address: T,
+        header: Header::new(0, 1, 1).word(),
+    }
+}
 
 /// The second marked object after the slide.
-pub const LAST: SlidObject = SlidObject {
-    number: 1,
-    index: 5,
-    address: T + 2,
-    header: 12_884_901_889,
-};
+pub fn last() -> SlidObject {
+    SlidObject {
+        number: 1,
+        index: 5,
+        address: T + 2,
+        header: Header::new(1, 0, 3).word(),
+    }
+}
 
 /// The second marked object, and another header at its address.
-pub const LAST_OUT_OF_PLACE: OutOfPlace = OutOfPlace {
-    object: LAST,
-    is: 5,
-};
+pub fn last_out_of_place() -> OutOfPlace {
+    OutOfPlace {
+        object: last(),
+        is: 5,
+    }
+}
 
 // For the plan of the three objects.
-static TOLD: [ExplainedDump; 14] = [
+static TOLD: [ExplainedDump; 10] = [
     ExplainedDump(Whole::Linked, &[], None),
-    // Word: 12 for 11.
-    ExplainedDump(
-        Whole::Linked,
-        &[Change(FIRST_DATA, 8, 8, 12)],
-        Some(Explanation::WrongWord(WrongWordAt {
-            page: 0,
-            offset: 1,
-            is: 12,
-            should_be: 11,
-            object: Some(FIRST),
-            out_of_place: None,
-        })),
-    ),
-    // The same, and the last object has another header.
-    ExplainedDump(
-        Whole::Linked,
-        &[Change(FIRST_DATA, 8, 8, 12), Change(SLID_HEADER, 8, 8, 5)],
-        Some(Explanation::WrongWord(WrongWordAt {
-            page: 0,
-            offset: 1,
-            is: 12,
-            should_be: 11,
-            object: Some(FIRST),
-            out_of_place: Some(LAST_OUT_OF_PLACE),
-        })),
-    ),
-    ExplainedDump(
-        Whole::Linked,
-        &[Change(SLID_HEADER, 8, 8, 5)],
-        Some(Explanation::WrongWord(WrongWordAt {
-            page: 0,
-            offset: 2,
-            is: 5,
-            should_be: 12_884_901_889,
-            object: Some(LAST),
-            out_of_place: Some(LAST_OUT_OF_PLACE),
-        })),
-    ),
-    // The reference is that of before the entry.
-    ExplainedDump(
-        Whole::Linked,
-        &[Change(REFERENCE, 8, 8, T)],
-        Some(Explanation::WrongWord(WrongWordAt {
-            page: 0,
-            offset: 3,
-            is: T,
-            should_be: T + 64,
-            object: Some(LAST),
-            out_of_place: None,
-        })),
-    ),
     // A word after all objects, and one of a fresh page.
     ExplainedDump(
         Whole::Linked,
@@ -187,6 +143,63 @@ static TOLD: [ExplainedDump; 14] = [
     ),
 ];
 
+// The same, of words of objects.
+fn told_of_objects() -> [ExplainedDump; 4] {
+    [
+        // Word: 12 for 11.
+        ExplainedDump(
+            Whole::Linked,
+            &[Change(FIRST_DATA, 8, 8, 12)],
+            Some(Explanation::WrongWord(WrongWordAt {
+                page: 0,
+                offset: 1,
+                is: 12,
+                should_be: 11,
+                object: Some(first()),
+                out_of_place: None,
+            })),
+        ),
+        // The same, and the last object has another header.
+        ExplainedDump(
+            Whole::Linked,
+            &[Change(FIRST_DATA, 8, 8, 12), Change(SLID_HEADER, 8, 8, 5)],
+            Some(Explanation::WrongWord(WrongWordAt {
+                page: 0,
+                offset: 1,
+                is: 12,
+                should_be: 11,
+                object: Some(first()),
+                out_of_place: Some(last_out_of_place()),
+            })),
+        ),
+        ExplainedDump(
+            Whole::Linked,
+            &[Change(SLID_HEADER, 8, 8, 5)],
+            Some(Explanation::WrongWord(WrongWordAt {
+                page: 0,
+                offset: 2,
+                is: 5,
+                should_be: Header::new(1, 0, 3).word(),
+                object: Some(last()),
+                out_of_place: Some(last_out_of_place()),
+            })),
+        ),
+        // The reference is that of before the entry.
+        ExplainedDump(
+            Whole::Linked,
+            &[Change(REFERENCE, 8, 8, T)],
+            Some(Explanation::WrongWord(WrongWordAt {
+                page: 0,
+                offset: 3,
+                is: T,
+                should_be: T + 64,
+                object: Some(last()),
+                out_of_place: None,
+            })),
+        ),
+    ]
+}
+
 /// How much of each dump there is.
 pub fn counts_of(whole: &Whole) -> DumpCounts {
     match whole {
@@ -234,4 +247,9 @@ pub fn expect_explained(rt: &(impl Abort + AllocGlobal + Threads + Sync), dumps:
 #[test]
 fn each_fault_is_explained_with_its_numbers(rt: HostRuntime) {
     expect_explained(&rt, &TOLD);
+}
+
+#[test]
+fn a_wrong_word_of_an_object_is_explained_with_the_object(rt: HostRuntime) {
+    expect_explained(&rt, &told_of_objects());
 }

@@ -12,8 +12,8 @@ use std::alloc::Global;
 use std::process::Abort;
 use test_support::{At, REFERENCE, REFERENCE_VALUE, T, Worked, plan_of};
 
-// The end of an entry that writes T + 1: the writer is 0, the kind 1, the offset 3, and (T + 1) * 2^24 is 2^57 + 2^24.
-const INTO_FIRST: u64 = 144_115_188_092_829_952;
+// The end of an entry that writes T + 1: the writer is 0, the kind 1, the offset 3.
+const INTO_FIRST: u64 = (1 << 8) + (3 << 16) + ((T + 1) << 24);
 
 // For the plan of the three objects.
 static LOOSE: [ExplainedDump; 2] = [

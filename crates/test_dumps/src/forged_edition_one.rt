@@ -1,5 +1,5 @@
 //! The dump after a new object, with some fields changed, and the fault of each.
-use crate::dump_bytes::{Change, Whole};
+use crate::dump_bytes::{Change, PAGE_1, PAGE_1_AND_TWO, PAGES_0_AND_2, Whole};
 use crate::expected_reports::{
     BAD_HEADER, BAD_SLID, MISSING_1, REPEATED_0, UNCLAIMED_0, WRONG_HEAD, WRONG_TOTAL,
     WRONG_WORD_1, YES,
@@ -101,17 +101,13 @@ fn a_forged_dump_is_refused_for_its_fault(rt: HostRuntime) {
 // Lists of builds that have a built page not once, or a page that was never built.
 static CLAIMED: [JudgedDump; 4] = [
     // A page left out.
-    JudgedDump(
-        Whole::Linked,
-        &[Change(BUILDS, 12, 8, 4_294_967_297)],
-        UNCLAIMED_0,
-    ),
+    JudgedDump(Whole::Linked, &[Change(BUILDS, 12, 8, PAGE_1)], UNCLAIMED_0),
     // A page that was never built.
     JudgedDump(
         Whole::Linked,
         &[
-            Change(BUILDS, 12, 8, 4_294_967_299),
-            Change(BUILDS + 12, 0, 8, 8_589_934_592),
+            Change(BUILDS, 12, 8, PAGE_1_AND_TWO),
+            Change(BUILDS + 12, 0, 8, PAGES_0_AND_2),
         ],
         UNCLAIMED_2,
     ),
@@ -119,7 +115,7 @@ static CLAIMED: [JudgedDump; 4] = [
     JudgedDump(
         Whole::Linked,
         &[
-            Change(BUILDS, 12, 8, 4_294_967_299),
+            Change(BUILDS, 12, 8, PAGE_1_AND_TWO),
             Change(BUILDS + 12, 0, 8, 0),
         ],
         UNCLAIMED_0,

@@ -1,14 +1,19 @@
 //! Dumps of edition two with some fields changed, dumps of the other edition, and the report on each.
 use crate::dump_bytes::{Change, Whole};
+use crate::expected::expect_eq;
 use crate::expected_reports::{
     BAD_FIELD, BAD_HEADER, BAD_MADE, BAD_MAGIC, BAD_SLID, MISSING_2, REPEATED_0, WRONG_HEAD,
     WRONG_TOTAL, WRONG_WORD_1, WRONG_WORD_65, YES,
 };
-use crate::judged_dumps::{JudgedDump, Report, expect_judged};
+use crate::judged_dumps::{JudgedDump, Report, expect_judged, report_on_changed};
 use comp_audit::{AuditFault, Verdict};
+use heap_layout::Header;
+use page_plan::Plan;
+use std::alloc::Global;
+use std::process::Abort;
 use test_support::{
-    F, HEADER_STAMP, REFERENCE_KIND, REFERENCE_STAMP, REFERENCE_VALUE, ROOT, SLID_WEAK_WORD, T,
-    VERSION, Worked,
+    At, F, HEADER_STAMP, REFERENCE_KIND, REFERENCE_STAMP, REFERENCE_VALUE, ROOT, SLID_WEAK_WORD, T,
+    VERSION, Worked, plan_of,
 };
 
 // The positions of fields of the dump.
@@ -46,7 +51,7 @@ const LOOSE_1: Report = Ok(Verdict::No(AuditFault::LooseReference(T + 1)));
 const LOOSE_65: Report = Ok(Verdict::No(AuditFault::LooseReference(T + 65)));
 
 // For the compacted three objects of edition two.
-static WEAK_FORGED: [JudgedDump; 49] = [
+static WEAK_FORGED: [JudgedDump; 42] = [
     // No change.
     JudgedDump(Whole::WeakLinked, &[], YES),
     // A dump of edition one has no weak word.
@@ -132,68 +137,6 @@ static WEAK_FORGED: [JudgedDump; 49] = [
     // The same at the new object, which has one weak word.
     JudgedDump(Whole::WeakLinked, &[Change(MADE_KIND, 1, 1, 1)], BAD_MADE),
     JudgedDump(Whole::WeakLinked, &[Change(MADE_KIND, 1, 1, 2)], BAD_MADE),
-    // The new object has a reference in place of it, and a data word.
-    JudgedDump(
-        Whole::WeakLinked,
-        &[
-            Change(MADE, 8, 8, 1_407_374_883_553_281),
-            Change(HEADER, 8, 8, 1_407_374_883_553_281),
-        ],
-        BAD_MADE,
-    ),
-    JudgedDump(
-        Whole::WeakLinked,
-        &[
-            Change(MADE, 8, 8, 1_407_374_883_553_281),
-            Change(HEADER, 8, 8, 1_407_374_883_553_281),
-            Change(MADE_KIND, 1, 1, 1),
-        ],
-        YES,
-    ),
-    JudgedDump(
-        Whole::WeakLinked,
-        &[
-            Change(MADE, 8, 8, 1_407_374_883_618_816),
-            Change(HEADER, 8, 8, 1_407_374_883_618_816),
-        ],
-        BAD_MADE,
-    ),
-    JudgedDump(
-        Whole::WeakLinked,
-        &[
-            Change(MADE, 8, 8, 1_407_374_883_618_816),
-            Change(HEADER, 8, 8, 1_407_374_883_618_816),
-            Change(MADE_KIND, 1, 1, 2),
-        ],
-        YES,
-    ),
-    // The new object has 63 weak words, and 64.
-    JudgedDump(
-        Whole::WeakLinked,
-        &[
-            Change(MADE, 8, 8, 1_407_645_466_492_928),
-            Change(HEADER, 8, 8, 1_407_645_466_492_928),
-            Change(TOTAL, 8, 8, 70),
-        ],
-        YES,
-    ),
-    JudgedDump(
-        Whole::WeakLinked,
-        &[
-            Change(MADE, 8, 8, 1_407_645_466_492_928),
-            Change(HEADER, 8, 8, 1_407_645_466_492_928),
-        ],
-        WRONG_TOTAL,
-    ),
-    JudgedDump(
-        Whole::WeakLinked,
-        &[
-            Change(MADE, 8, 8, 1_407_649_761_460_224),
-            Change(HEADER, 8, 8, 1_407_649_761_460_224),
-            Change(TOTAL, 8, 8, 71),
-        ],
-        BAD_HEADER,
-    ),
     // A weak word that is neither what its entry says nor what slid.
     JudgedDump(
         Whole::WeakLinked,
@@ -325,6 +268,89 @@ static WEAK_FORGED: [JudgedDump; 49] = [
 #[test]
 fn a_forged_dump_of_edition_two_is_refused_for_its_fault(rt: HostRuntime) {
     expect_judged(&rt, Worked::Weak, "weak words", &WEAK_FORGED);
+}
+
+// The new object with another header: the name of the row, the numbers of references, weak words and data words, a
+// further change, and the report on the dump for the compacted three objects of edition two.
+struct OtherHeader(&'static str, u16, u16, u16, Option<Change>, Report);
+
+static OTHER_HEADERS: [OtherHeader; 7] = [
+    OtherHeader(
+        "a reference in place of the weak word",
+        1,
+        0,
+        0,
+        None,
+        BAD_MADE,
+    ),
+    OtherHeader(
+        "a reference that is written",
+        1,
+        0,
+        0,
+        Some(Change(MADE_KIND, 1, 1, 1)),
+        YES,
+    ),
+    OtherHeader("a data word in place of it", 0, 0, 1, None, BAD_MADE),
+    OtherHeader(
+        "a data word that is written",
+        0,
+        0,
+        1,
+        Some(Change(MADE_KIND, 1, 1, 2)),
+        YES,
+    ),
+    OtherHeader(
+        "63 weak words",
+        0,
+        63,
+        0,
+        Some(Change(TOTAL, 8, 8, 70)),
+        YES,
+    ),
+    OtherHeader(
+        "63 weak words that are not live",
+        0,
+        63,
+        0,
+        None,
+        WRONG_TOTAL,
+    ),
+    OtherHeader(
+        "64 weak words",
+        0,
+        64,
+        0,
+        Some(Change(TOTAL, 8, 8, 71)),
+        BAD_HEADER,
+    ),
+];
+
+// The report on the dump whose new object has this header, in its page and in its entry.
+fn with_header(
+    rt: &impl Abort,
+    alloc: Global,
+    plan: &Plan,
+    header: Header,
+    more: Option<Change>,
+) -> Report {
+    let made = Change(MADE, 8, 8, header.word());
+    let entry = Change(HEADER, 8, 8, header.word());
+    match more {
+        Some(more) => report_on_changed(rt, alloc, plan, &Whole::WeakLinked, &[made, entry, more]),
+        None => report_on_changed(rt, alloc, plan, &Whole::WeakLinked, &[made, entry]),
+    }
+}
+
+#[test]
+fn a_new_object_of_edition_two_with_another_header_is_judged(rt: HostRuntime) {
+    let alloc = rt.alloc();
+    let plan = plan_of(&rt, alloc, Worked::Weak).expect(&rt, "a plan");
+    for OtherHeader(name, refs, weak, data, more, wanted) in &OTHER_HEADERS {
+        let header = Header::new_weak(*refs, *weak, *data, 5);
+        let found = with_header(&rt, alloc, &plan, header, *more);
+        expect_eq(&rt, At::new(name, 0), found, *wanted);
+    }
 }
 
 // For the compacted three objects of edition one.

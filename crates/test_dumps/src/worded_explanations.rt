@@ -2,7 +2,7 @@
 //! lists of builds.
 use crate::dump_bytes::Whole;
 use crate::expected::expect_eq;
-use crate::explained_faults::{LAST, LAST_OUT_OF_PLACE, counts_of};
+use crate::explained_faults::{counts_of, last, last_out_of_place};
 use comp_audit::{
     EntryCause, Explanation, HeadCause, LooseEntry, LooseWordAt, RootAt, StampLost, StampUses,
     Totals, WrongWordAt,
@@ -23,21 +23,11 @@ const STORED: Entry = Entry {
 };
 
 /// An explanation, and how it reads.
+#[derive(Drop)]
 pub struct WordedExplanation(pub Explanation, pub &'static str);
 
 // Each arm but those of entries and of claims, and each line that is left out if there is nothing to say.
-static WORDED: [WordedExplanation; 13] = [
-    WordedExplanation(
-        Explanation::WrongWord(WrongWordAt {
-            page: 3,
-            offset: 17,
-            is: 5,
-            should_be: T + 8,
-            object: Some(LAST),
-            out_of_place: Some(LAST_OUT_OF_PLACE),
-        }),
-        "page 3 offset 17 has 5, not 8589934600\nobject 1 at index 5, address 8589934594, header 12884901889\nfirst out of place: object 1 at index 5, should start at 8589934594, there is 5",
-    ),
+static WORDED: [WordedExplanation; 12] = [
     WordedExplanation(
         Explanation::WrongWord(WrongWordAt {
             page: 0,
@@ -134,6 +124,21 @@ static WORDED: [WordedExplanation; 13] = [
     ),
 ];
 
+// A wrong word of an object, while the objects are out of place.
+fn of_an_object() -> WordedExplanation {
+    WordedExplanation(
+        Explanation::WrongWord(WrongWordAt {
+            page: 3,
+            offset: 17,
+            is: 5,
+            should_be: T + 8,
+            object: Some(last()),
+            out_of_place: Some(last_out_of_place()),
+        }),
+        "page 3 offset 17 has 5, not 8589934600\nobject 1 at index 5, address 8589934594, header 12884901889\nfirst out of place: object 1 at index 5, should start at 8589934594, there is 5",
+    )
+}
+
 /// Checks how all explanations of this table read.
 pub fn expect_worded(rt: &impl Abort, alloc: Global, explanations: &[WordedExplanation]) {
     for (at, WordedExplanation(explanation, wanted)) in explanations.iter().enumerate() {
@@ -145,6 +150,7 @@ pub fn expect_worded(rt: &impl Abort, alloc: Global, explanations: &[WordedExpla
 #[test]
 fn explanations_are_printed_as_these_lines(rt: HostRuntime) {
     expect_worded(&rt, rt.alloc(), &WORDED);
+    expect_worded(&rt, rt.alloc(), &[of_an_object()]);
 }
 
 // Checks how the counts of the dump after a new object read.

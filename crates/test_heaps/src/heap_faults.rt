@@ -1,64 +1,76 @@
 //! Why heaps are refused.
 use crate::expected::expect_eq;
-use heap_layout::{Edition, LayoutFault};
+use heap_layout::{Edition, Header, LayoutFault};
 use std::process::Abort;
-use test_support::{At, F, T, THREE, WEAK, judged};
+use test_support::{At, F, T, judged, three_words, weak_words};
+
+// The words of a heap.
+#[derive(Clone, Copy)]
+enum Words {
+    // The three objects.
+    Three,
+    // The three objects. The last refers to the one that is not marked.
+    Inner,
+    // The header of an object with so many data words, and no word more.
+    Alone(u16),
+    // No word.
+    None,
+}
 
 // The words, the marks and the roots of a heap, and its first fault, or `None` if it has none.
-type JudgedHeap = (
-    &'static [u64],
-    &'static [u32],
-    &'static [u64],
-    Option<LayoutFault>,
-);
-
-// The three objects. The last refers to the one that is not marked.
-const INNER: [u64; 7] = [
-    4_295_032_832,
-    11,
-    8_590_000_129,
-    0,
-    22,
-    12_884_901_889,
-    F + 2,
-];
+type JudgedHeap = (Words, &'static [u32], &'static [u64], Option<LayoutFault>);
 
 static JUDGED: [JudgedHeap; 10] = [
-    (&THREE, &[0, 5], &[F + 5], None),
-    (&THREE, &[0, 5], &[F + 1], Some(LayoutFault::BadRoot(0))),
+    (Words::Three, &[0, 5], &[F + 5], None),
     (
-        &INNER,
+        Words::Three,
+        &[0, 5],
+        &[F + 1],
+        Some(LayoutFault::BadRoot(0)),
+    ),
+    (
+        Words::Inner,
         &[0, 5],
         &[F + 5],
         Some(LayoutFault::UnmarkedTarget(6)),
     ),
     (
-        &THREE,
+        Words::Three,
         &[0, 1],
         &[F + 5],
         Some(LayoutFault::MarkNotStart(1)),
     ),
     (
-        &THREE,
+        Words::Three,
         &[0, 7],
         &[F + 5],
         Some(LayoutFault::MarkNotStart(7)),
     ),
     (
-        &THREE,
+        Words::Three,
         &[5, 0],
         &[F + 5],
         Some(LayoutFault::MarksNotRising(0)),
     ),
     (
-        &THREE,
+        Words::Three,
         &[5, 5],
         &[F + 5],
         Some(LayoutFault::MarksNotRising(5)),
     ),
-    (&[67_108_864], &[], &[], Some(LayoutFault::ObjectTooLong(0))),
-    (&[65_536], &[], &[], Some(LayoutFault::ObjectPastEnd(0))),
-    (&[], &[], &[], None),
+    (
+        Words::Alone(1_024),
+        &[],
+        &[],
+        Some(LayoutFault::ObjectTooLong(0)),
+    ),
+    (
+        Words::Alone(1),
+        &[],
+        &[],
+        Some(LayoutFault::ObjectPastEnd(0)),
+    ),
+    (Words::None, &[], &[], None),
 ];
 
 // The first fault of a heap, or `None`.
@@ -74,10 +86,33 @@ fn first_fault(
         .err()
 }
 
+// The first fault of a heap of edition one with these words, or `None`.
+fn fault_of(
+    rt: &(impl Abort + AllocGlobal),
+    words: Words,
+    marks: &[u32],
+    roots: &[u64],
+) -> Option<LayoutFault> {
+    let one = Edition::One;
+    match words {
+        Words::Three => first_fault(rt, one, &three_words(), marks, roots),
+        Words::Inner => {
+            let mut inner = three_words();
+            inner[6] = F + 2;
+            first_fault(rt, one, &inner, marks, roots)
+        }
+        Words::Alone(data_words) => {
+            let header = Header::new(0, data_words, 0).word();
+            first_fault(rt, one, &[header], marks, roots)
+        }
+        Words::None => first_fault(rt, one, &[], marks, roots),
+    }
+}
+
 #[test]
 fn a_heap_is_refused_for_its_first_fault(rt: HostRuntime) {
     for (row, (words, marks, roots, wanted)) in JUDGED.iter().enumerate() {
-        let found = first_fault(&rt, Edition::One, words, marks, roots);
+        let found = fault_of(&rt, *words, marks, roots);
         expect_eq(&rt, At::new("the first fault", row), found, *wanted);
     }
 }
@@ -92,7 +127,7 @@ const BOTH: &[u32] = &[0, 5];
 // The last one alone.
 const LAST: &[u32] = &[5];
 
-static CHANGED: [ChangedWeak; 29] = [
+static CHANGED: [ChangedWeak; 23] = [
     (&[], BOTH, None),
     // The first weak word: null, and each object, marked or not.
     (&[(1, 0)], BOTH, None),
@@ -126,36 +161,6 @@ static CHANGED: [ChangedWeak; 29] = [
         BOTH,
         Some(LayoutFault::UnmarkedTarget(6)),
     ),
-    // The last object has a weak word in place of its reference, or beside it. The first has two references in place of
-    // its weak words.
-    (&[(5, 844_429_225_099_264), (6, F + 4)], BOTH, None),
-    (
-        &[(5, 844_429_225_099_264), (6, F + 3)],
-        BOTH,
-        Some(LayoutFault::BadWeak(6)),
-    ),
-    (
-        &[(5, 844_429_225_099_265)],
-        BOTH,
-        Some(LayoutFault::ObjectPastEnd(5)),
-    ),
-    (
-        &[(0, 281_474_976_776_194)],
-        BOTH,
-        Some(LayoutFault::UnmarkedTarget(1)),
-    ),
-    // The object is one word shorter, so that its data word becomes a header.
-    (
-        &[(0, 281_483_566_645_248)],
-        BOTH,
-        Some(LayoutFault::ObjectPastEnd(3)),
-    ),
-    // 512 weak words and 512 data words.
-    (
-        &[(0, 2_199_056_809_984)],
-        BOTH,
-        Some(LayoutFault::ObjectTooLong(0)),
-    ),
     // The weak words of an object that is not marked are not checked.
     (&[(6, F + 5), (1, F + 1)], LAST, None),
     (&[(6, F + 5), (1, 7), (2, u64::MAX)], LAST, None),
@@ -164,7 +169,7 @@ static CHANGED: [ChangedWeak; 29] = [
 
 // The three objects with these words changed.
 fn changed(words: &[(usize, u64)]) -> [u64; 7] {
-    let mut all = WEAK;
+    let mut all = weak_words();
     for (at, word) in words {
         if let Some(place) = all.get_mut(*at) {
             *place = *word;
@@ -189,6 +194,53 @@ fn expect_changed(rt: &(impl Abort + AllocGlobal), rows: &[ChangedWeak]) {
 #[test]
 fn a_heap_with_weak_words_is_refused_for_its_first_fault(rt: HostRuntime) {
     expect_changed(&rt, &CHANGED);
+}
+
+// The numbers of references, weak words and data words, and the tag, of a header.
+type Counts = (u16, u16, u16, u16);
+
+// The three objects of edition two with another header at this index, and perhaps with the last word changed: the first
+// fault then, or `None`.
+type ChangedHeader = (usize, Counts, Option<u64>, Option<LayoutFault>);
+
+static HEADERS: [ChangedHeader; 6] = [
+    // The last object has a weak word in place of its reference, or beside it. The first has two references in place of
+    // its weak words.
+    (5, (0, 1, 0, 3), Some(F + 4), None),
+    (5, (0, 1, 0, 3), Some(F + 3), Some(LayoutFault::BadWeak(6))),
+    (5, (1, 1, 0, 3), None, Some(LayoutFault::ObjectPastEnd(5))),
+    (0, (2, 0, 1, 1), None, Some(LayoutFault::UnmarkedTarget(1))),
+    // The object is one word shorter, so that its data word becomes a header.
+    (0, (0, 2, 0, 1), None, Some(LayoutFault::ObjectPastEnd(3))),
+    // 512 weak words and 512 data words.
+    (
+        0,
+        (0, 512, 512, 0),
+        None,
+        Some(LayoutFault::ObjectTooLong(0)),
+    ),
+];
+
+// The three objects with this header and this last word.
+fn with_header(at: usize, counts: Counts, last: Option<u64>) -> [u64; 7] {
+    let (refs, weak, data, tag) = counts;
+    let mut all = changed(&[(at, Header::new_weak(refs, weak, data, tag).word())]);
+    all[6] = last.unwrap_or(all[6]);
+    all
+}
+
+#[test]
+fn a_heap_with_another_header_is_refused_for_its_first_fault(rt: HostRuntime) {
+    for (row, (index, counts, last, wanted)) in HEADERS.iter().enumerate() {
+        let words = with_header(*index, *counts, *last);
+        let found = first_fault(&rt, Edition::Two, &words, BOTH, &[F + 5]);
+        expect_eq(
+            &rt,
+            At::new("the first fault by a header", row),
+            found,
+            *wanted,
+        );
+    }
 }
 
 // A list of `count` zeros.

@@ -1,5 +1,5 @@
 //! Objects of edition three over a thousand pages each: their first, inner and last pages, each built alone.
-use crate::plan_answers::{PlanAnswer, PlannedHeap, expect_planned};
+use crate::plan_answers::{PlanAnswer, PlannedHeap, Slid, expect_planned};
 use heap_layout::Kind;
 use test_support::{F, MANY_DATA, MANY_REFERENCES, MANY_WEAK, T, Worked};
 
@@ -119,10 +119,7 @@ static OF_EDITION_TWO: [PlannedHeap; 1] = [PlannedHeap {
     answers: &[
         PlanAnswer::Counts(6, 1),
         PlanAnswer::Roots(&[T + 4]),
-        PlanAnswer::Page(
-            0,
-            &[281_483_566_710_784, 0, T + 4, 9, 844_424_930_131_969, T],
-        ),
+        PlanAnswer::Objects(0, Slid::Weak),
         PlanAnswer::Shape(T, Some((0, 2, 1, 1))),
         PlanAnswer::Shape(T + 4, Some((1, 0, 0, 3))),
     ],

@@ -47,7 +47,7 @@ static PLACES: [PlannedHeap; 5] = [
             PlanAnswer::Place(134_398, Some(67_199)),
             PlanAnswer::Counts(67_200, 1_050),
             PlanAnswer::First(1_049, Some(134_272)),
-            PlanAnswer::Word(1_049, 0, 576_693_848_768_512),
+            PlanAnswer::Tagged(1_049, 0, 134_272),
         ],
     },
     // One thread counts the first 8,192 blocks, and another thread, if there is one, the others.
@@ -60,7 +60,7 @@ static PLACES: [PlannedHeap; 5] = [
             PlanAnswer::Place(599_998, Some(299_999)),
             PlanAnswer::Counts(300_000, 4_688),
             PlanAnswer::First(4_687, Some(599_936)),
-            PlanAnswer::Word(4_687, 0, 2_576_705_499_693_056),
+            PlanAnswer::Tagged(4_687, 0, 599_936),
         ],
     },
 ];
@@ -122,7 +122,7 @@ static OBJECTS: [PlannedHeap; 2] = [
         answers: &[
             PlanAnswer::Counts(67_200, 1_050),
             PlanAnswer::First(1_049, Some(134_272)),
-            PlanAnswer::Word(1_049, 0, 576_693_848_768_512),
+            PlanAnswer::Tagged(1_049, 0, 134_272),
             PlanAnswer::Place(134_398, Some(67_199)),
         ],
     },

@@ -1,11 +1,43 @@
 //! What the plan of a heap and its tables answer.
 use crate::expected::expect_eq;
-use heap_layout::{Kind, PageWords};
+use heap_layout::{Header, Kind, PageWords};
 use mark_tables::Tables;
 use page_plan::{Builder, Plan};
 use std::process::Abort;
 use std::thread::Threads;
-use test_support::{At, Worked, page_words, plan_of};
+use test_support::{At, T, Worked, page_words, plan_of};
+
+/// The objects that slide of a worked heap, by the name of the heap.
+#[derive(Clone, Copy)]
+pub enum Slid {
+    Smallest,
+    Three,
+    Weak,
+}
+
+/// The words of these objects after the slide, and zeros behind them. Of the three objects of edition two the first
+/// weak word is null, since its object was not marked.
+pub fn slid_words(slid: Slid) -> [u64; 6] {
+    match slid {
+        Slid::Smallest => [Header::new(0, 0, 7).word(), 0, 0, 0, 0, 0],
+        Slid::Three => [
+            Header::new(0, 1, 1).word(),
+            11,
+            Header::new(1, 0, 3).word(),
+            T,
+            0,
+            0,
+        ],
+        Slid::Weak => [
+            Header::new_weak(0, 2, 1, 1).word(),
+            0,
+            T + 4,
+            9,
+            Header::new_weak(1, 0, 0, 3).word(),
+            T,
+        ],
+    }
+}
 
 /// A question and its answer.
 pub enum PlanAnswer {
@@ -23,8 +55,12 @@ pub enum PlanAnswer {
     Kinds(u64, &'static [Kind]),
     /// The first words of the page, which exists. All others are 0.
     Page(u64, &'static [u64]),
+    /// All words of the page, which exists: those of these objects.
+    Objects(u64, Slid),
     /// A word of a page, which exists: the page, the offset and the word.
     Word(u64, u8, u64),
+    /// The same of a header without fields, with its tag in place of the word.
+    Tagged(u64, u8, u32),
     /// The number of live words below this word, which is live, or `None` if it is not.
     Place(u64, Option<u64>),
     /// The number of live words by the tables.
@@ -105,7 +141,14 @@ fn expect_answer(
         PlanAnswer::Shape(address, shape) => expect_eq(rt, at, shape_at(plan, address), shape),
         PlanAnswer::Kinds(p, begin) => expect_kinds(rt, at, plan, p, begin),
         PlanAnswer::Page(p, begin) => expect_words(rt, at, &page_of(rt, plan, p), begin),
+        PlanAnswer::Objects(p, slid) => {
+            expect_words(rt, at, &page_of(rt, plan, p), &slid_words(slid))
+        }
         PlanAnswer::Word(p, offset, word) => {
+            expect_eq(rt, at, word_of(&page_of(rt, plan, p), offset), Some(word))
+        }
+        PlanAnswer::Tagged(p, offset, tag) => {
+            let word = Header::new(0, 0, tag).word();
             expect_eq(rt, at, word_of(&page_of(rt, plan, p), offset), Some(word))
         }
         PlanAnswer::Place(i, place) => {

@@ -1,24 +1,19 @@
 //! Pages of slid heaps.
 use crate::expected::expect_eq;
-use crate::plan_answers::{PlanAnswer, PlannedHeap, expect_planned, expect_words, page_of};
+use crate::plan_answers::{
+    PlanAnswer, PlannedHeap, Slid, expect_planned, expect_words, page_of, slid_words,
+};
 use heap_layout::Kind;
 use std::process::Abort;
 use test_support::{At, Counting, F, T, Worked, plan_of};
 
-// The words of the three objects after the slide. The one page begins with them.
-const SLID_THREE: [u64; 4] = [4_295_032_832, 11, 12_884_901_889, T];
-
-// The kinds of these words.
+// The kinds of the words of the three objects after the slide.
 const THREE_KINDS: [Kind; 4] = [Kind::Header, Kind::Data, Kind::Header, Kind::Reference];
 
 // The address of the last of the three objects.
 const LAST: u64 = F + 5;
 
-// The words of the three objects of edition two after the slide. The first weak word is null, since its object was not
-// marked.
-const SLID_WEAK: [u64; 6] = [281_483_566_710_784, 0, T + 4, 9, 844_424_930_131_969, T];
-
-// The kinds of these words.
+// The kinds of those of edition two.
 const WEAK_KINDS: [Kind; 6] = [
     Kind::Header,
     Kind::Weak,
@@ -46,7 +41,7 @@ static OVER_A_GAP: [PlannedHeap; 2] = [
             PlanAnswer::Forward(T, None),
             PlanAnswer::Forward(u64::MAX, None),
             PlanAnswer::Roots(&[T + 2]),
-            PlanAnswer::Page(0, &SLID_THREE),
+            PlanAnswer::Objects(0, Slid::Three),
             PlanAnswer::Kinds(0, &THREE_KINDS),
         ],
     },
@@ -62,7 +57,7 @@ static OVER_A_GAP: [PlannedHeap; 2] = [
             PlanAnswer::Forward(F + 4, None),
             PlanAnswer::Forward(F + 1, None),
             PlanAnswer::Roots(&[T + 4]),
-            PlanAnswer::Page(0, &SLID_WEAK),
+            PlanAnswer::Objects(0, Slid::Weak),
             PlanAnswer::Kinds(0, &WEAK_KINDS),
             PlanAnswer::Shape(T, Some((0, 2, 1, 1))),
             PlanAnswer::Shape(T + 4, Some((1, 0, 0, 3))),
@@ -86,7 +81,7 @@ static ONTO_PAGES: [PlannedHeap; 6] = [
     PlannedHeap {
         name: "the smallest heap",
         heap: Worked::Smallest,
-        answers: &[PlanAnswer::Page(0, &[30_064_771_072])],
+        answers: &[PlanAnswer::Objects(0, Slid::Smallest)],
     },
     PlannedHeap {
         name: "an object of 65 words",
@@ -127,10 +122,11 @@ fn slid_words_fill_pages_of_64_words(rt: HostRuntime) {
 // Checks page 0 of the three objects, as a builder that counts builds it and as its plan does.
 fn expect_builds(rt: &(impl Abort + AllocGlobal), counting: &Counting) {
     let at = At::new("any builder", 0);
+    let wanted = slid_words(Slid::Three);
     expect_eq(rt, at, counting.count(), 0);
-    expect_words(rt, at, &page_of(rt, counting, 0), &SLID_THREE);
+    expect_words(rt, at, &page_of(rt, counting, 0), &wanted);
     expect_eq(rt, at, counting.count(), 1);
-    expect_words(rt, at, &page_of(rt, &counting.plan, 0), &SLID_THREE);
+    expect_words(rt, at, &page_of(rt, &counting.plan, 0), &wanted);
 }
 
 #[test]

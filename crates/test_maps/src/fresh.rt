@@ -8,27 +8,29 @@ use test_support::{Part, bytes_of};
 
 // A dump of the three objects and of two mutators. Mutator 1 built their page. Mutator 0 filled its fresh page with
 // objects of 40 and 24 words, of which the first has a reference; mutator 1 has an object of one word on its own.
-const TWO_MUTATORS: [Part; 24] = [
+const TWO_MUTATORS: [Part; 26] = [
     Part::Bytes(b"COMPDUMP"),
     Part::Numbers(&[1, 2, 2, 3, 1]),
     Part::Words(&[T + 2]),
     // page 0, without an entry
     Part::Bytes(&[1]),
-    Part::Words(&[4_295_032_832, 11, 12_884_901_889, T]),
+    Part::Fields(0, 1, 1, &[11]),
+    Part::Fields(1, 0, 3, &[T]),
     Part::Words(&[0; 60]),
     Part::Numbers(&[0]),
     // page 1 and its two entries
     Part::Bytes(&[1]),
-    Part::Words(&[2_490_369]),
+    Part::Fields(1, 38, 0, &[]),
     Part::Words(&[0; 39]),
-    Part::Words(&[1_507_328]),
+    Part::Fields(0, 23, 0, &[]),
     Part::Words(&[0; 23]),
     Part::Numbers(&[2]),
     Part::Words(&[0]),
     Part::Bytes(&[0, 0, 0]),
-    Part::Words(&[2_490_369, 1]),
+    Part::Fields(1, 38, 0, &[]),
+    Part::Words(&[1]),
     Part::Bytes(&[0, 0, 40]),
-    Part::Words(&[1_507_328]),
+    Part::Fields(0, 23, 0, &[]),
     // page 2 and its entry
     Part::Bytes(&[1]),
     Part::Words(&[0; 64]),
@@ -77,12 +79,12 @@ const FULL_PAGE: [Part; 17] = [
     Part::Bytes(&[0]),
     // page 1 and its entry, an object of 64 words
     Part::Bytes(&[1]),
-    Part::Words(&[4_128_768]),
+    Part::Fields(0, 63, 0, &[]),
     Part::Words(&[0; 63]),
     Part::Numbers(&[1]),
     Part::Words(&[0]),
     Part::Bytes(&[0, 0, 0]),
-    Part::Words(&[4_128_768]),
+    Part::Fields(0, 63, 0, &[]),
     // page 2 and its entry
     Part::Bytes(&[1]),
     Part::Words(&[0; 64]),

@@ -4,19 +4,31 @@ pub use heap_layout::{FROM_SPACE as F, TO_SPACE as T};
 use std::alloc::{AllocError, Global};
 
 /// Three objects. The first and the last are marked.
-pub const THREE: [u64; 7] = [4_295_032_832, 11, 8_590_000_129, 0, 22, 12_884_901_889, F];
+pub fn three_words() -> [u64; 7] {
+    [
+        Header::new(0, 1, 1).word(),
+        11,
+        Header::new(1, 1, 2).word(),
+        0,
+        22,
+        Header::new(1, 0, 3).word(),
+        F,
+    ]
+}
 
 /// Three objects of edition two. The first and the last are marked. The first has two weak words, which name the other
 /// two objects, and a data word; the last refers to the first.
-pub const WEAK: [u64; 7] = [
-    281_483_566_710_784,
-    F + 4,
-    F + 5,
-    9,
-    562_949_953_421_312,
-    844_424_930_131_969,
-    F,
-];
+pub fn weak_words() -> [u64; 7] {
+    [
+        Header::new_weak(0, 2, 1, 1).word(),
+        F + 4,
+        F + 5,
+        9,
+        Header::new_weak(0, 0, 0, 2).word(),
+        Header::new_weak(1, 0, 0, 3).word(),
+        F,
+    ]
+}
 
 /// The heap of these parts, or the fault that refuses it.
 pub fn judged(
@@ -52,12 +64,12 @@ pub fn heap(alloc: Global, words: &[u64], marks: &[u32], roots: &[u64]) -> Optio
 
 /// The three objects. The root refers to the last.
 pub fn three(alloc: Global) -> Option<MarkedHeap> {
-    heap(alloc, &THREE, &[0, 5], &[F + 5])
+    heap(alloc, &three_words(), &[0, 5], &[F + 5])
 }
 
 /// The three objects of edition two. The root refers to the last.
 pub fn weak(alloc: Global) -> Option<MarkedHeap> {
-    heap_of(alloc, Edition::Two, &WEAK, &[0, 5], &[F + 5])
+    heap_of(alloc, Edition::Two, &weak_words(), &[0, 5], &[F + 5])
 }
 
 /// An object without references whose data words count from 1.
@@ -90,7 +102,7 @@ pub fn zeros_heap(alloc: Global, data_words: u16) -> Option<MarkedHeap> {
 
 /// The smallest heap: one object of one word, which the root refers to.
 pub fn smallest(alloc: Global) -> Option<MarkedHeap> {
-    heap(alloc, &[30_064_771_072], &[0], &[F])
+    heap(alloc, &[Header::new(0, 0, 7).word()], &[0], &[F])
 }
 
 /// The empty heap.

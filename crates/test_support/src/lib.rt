@@ -45,10 +45,12 @@ pub use changes::{
     WEAK_WORD,
 };
 pub use contents::{Content, bytes_in};
-pub use heaps::{F, T, THREE, WEAK, counting_object, heap, heap_of, judged, zeros_object};
+pub use heaps::{
+    F, T, counting_object, heap, heap_of, judged, three_words, weak_words, zeros_object,
+};
 pub use images::{
-    ALL, BAD_ROOT_IMAGE, EMPTY_IMAGE, FRESH_DUMP, MARKED_IMAGE, MOVED, THREE_IMAGE, THREE_OBJECTS,
-    TWENTY_IMAGE, WEAK_DUMP, WEAK_IMAGE, WEAK_MOVED, WEAK_SWEPT_DUMP,
+    ALL, BAD_ROOT_IMAGE, EMPTY_IMAGE, FRESH_DUMP, MARKED_IMAGE, MOVED, THREE_IMAGE, TWENTY_IMAGE,
+    WEAK_DUMP, WEAK_IMAGE, WEAK_MOVED, WEAK_SWEPT_DUMP,
 };
 pub use many_fields::{MANY_DATA, MANY_REFERENCES, MANY_WEAK};
 pub use object::Object;

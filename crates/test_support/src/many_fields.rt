@@ -1,5 +1,5 @@
 //! Heaps of edition three: objects with many fields of one kind, and many roots; and one of edition four.
-use crate::heaps::{F, WEAK, heap_of};
+use crate::heaps::{F, heap_of, weak_words};
 use heap_layout::{Edition, FIRST_IMMEDIATE, MarkedHeap};
 use std::alloc::{AllocError, Global};
 
@@ -69,21 +69,22 @@ pub fn many_fields(alloc: Global) -> Option<MarkedHeap> {
     )
 }
 
-/// The three objects of `WEAK` in edition three, in which their words mean the same. The root refers to the last.
+/// The three objects of `weak_words` in edition three, in which their words mean the same. The root refers to the last.
 pub fn mixed(alloc: Global) -> Option<MarkedHeap> {
-    heap_of(alloc, Edition::Three, &WEAK, &[0, 5], &[F + 5])
+    heap_of(alloc, Edition::Three, &weak_words(), &[0, 5], &[F + 5])
 }
 
-/// The three objects of `WEAK` in edition four. One root refers to the last, the other is the immediate with payload 5.
+/// The three objects of `weak_words` in edition four. One root refers to the last, the other is the immediate with
+/// payload 5.
 pub fn immediates(alloc: Global) -> Option<MarkedHeap> {
     let roots = [F + 5, FIRST_IMMEDIATE + 5];
-    heap_of(alloc, Edition::Four, &WEAK, &[0, 5], &roots)
+    heap_of(alloc, Edition::Four, &weak_words(), &[0, 5], &roots)
 }
 
-/// The three objects of `WEAK` in edition three with this many roots. Number 65,536 and number 69,999 refer to the last
-/// object; all others are null.
+/// The three objects of `weak_words` in edition three with this many roots. Number 65,536 and number 69,999 refer to
+/// the last object; all others are null.
 pub fn many_roots(alloc: Global, count: u32) -> Option<MarkedHeap> {
     let mut roots = zeros(alloc, count as usize).ok()?;
     put(&mut roots, &FAR_ROOTS);
-    heap_of(alloc, Edition::Three, &WEAK, &[0, 5], &roots)
+    heap_of(alloc, Edition::Three, &weak_words(), &[0, 5], &roots)
 }

@@ -1,4 +1,5 @@
 //! The bytes of files, given as parts.
+use heap_layout::Header;
 use std::alloc::{AllocError, Global};
 
 /// A part of a file. All numbers are little-endian.
@@ -9,6 +10,12 @@ pub enum Part {
     Numbers(&'static [u32]),
     /// Words of 8 bytes each.
     Words(&'static [u64]),
+    /// The header, in edition one, of an object with this many references and data words and this tag, and words after
+    /// it.
+    Fields(u16, u16, u32, &'static [u64]),
+    /// The header, in edition two, of an object with this many references, weak words and data words and this tag, and
+    /// words after it.
+    WeakFields(u16, u16, u16, u16, &'static [u64]),
     /// An object of 640 words without references, whose data words are 0.
     Object,
     /// The ten pages of a dump that this object fills, without an entry.
@@ -36,6 +43,12 @@ fn push_part(bytes: &mut Vec<u8>, part: &Part) -> Result<(), AllocError> {
         Part::Bytes(given) => bytes.extend_from_slice(given),
         Part::Numbers(numbers) => push_numbers(bytes, numbers),
         Part::Words(words) => push_words(bytes, words),
+        Part::Fields(refs, data, tag, words) => {
+            push_object(bytes, Header::new(*refs, *data, *tag), words)
+        }
+        Part::WeakFields(refs, weak, data, tag, words) => {
+            push_object(bytes, Header::new_weak(*refs, *weak, *data, *tag), words)
+        }
         Part::Object => push_object_words(bytes, 0, 640),
         Part::Pages => push_pages(bytes),
     }
@@ -57,10 +70,20 @@ fn push_words(bytes: &mut Vec<u8>, words: &[u64]) -> Result<(), AllocError> {
     Ok(())
 }
 
+// Appends a header and the words after it.
+fn push_object(bytes: &mut Vec<u8>, header: Header, words: &[u64]) -> Result<(), AllocError> {
+    bytes.extend_from_slice(&header.word().to_le_bytes())?;
+    push_words(bytes, words)
+}
+
 // Appends the words `from` to `to` of the object of 640 words: its header, and data words that are 0.
 fn push_object_words(bytes: &mut Vec<u8>, from: u64, to: u64) -> Result<(), AllocError> {
     for at in from..to {
-        let word: u64 = if at == 0 { 41_877_504 } else { 0 };
+        let word: u64 = if at == 0 {
+            Header::new(0, 639, 0).word()
+        } else {
+            0
+        };
         bytes.extend_from_slice(&word.to_le_bytes())?;
     }
     Ok(())

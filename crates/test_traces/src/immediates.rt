@@ -19,7 +19,7 @@ static ON_IMMEDIATES: [ReplayedText; 4] = [
         shown: &[Shown { line: 6, value: 9 }],
         fault: Some(TraceFault::Refused(7, Refusal::NotAStart(u64::MAX))),
         live_words: 6,
-        entries: &[Only(0, 0, Kind::Reference, 5, u64::MAX)],
+        entries: &[Only::Word(0, 0, Kind::Reference, 5, u64::MAX)],
     },
     ReplayedText {
         case: TextRun {
@@ -31,7 +31,7 @@ static ON_IMMEDIATES: [ReplayedText; 4] = [
         shown: &[Shown { line: 6, value: 9 }],
         fault: Some(TraceFault::Refused(7, Refusal::NotAStart(I + 5))),
         live_words: 6,
-        entries: &[Only(0, 0, Kind::Weak, 2, I + 5)],
+        entries: &[Only::Word(0, 0, Kind::Weak, 2, I + 5)],
     },
     ReplayedText {
         case: TextRun {
@@ -43,7 +43,7 @@ static ON_IMMEDIATES: [ReplayedText; 4] = [
         shown: &[],
         fault: Some(TraceFault::Refused(5, Refusal::NotAStart(I + T + 4))),
         live_words: 6,
-        entries: &[Only(0, 0, Kind::Reference, 5, I + T + 4)],
+        entries: &[Only::Word(0, 0, Kind::Reference, 5, I + T + 4)],
     },
     ReplayedText {
         case: TextRun {

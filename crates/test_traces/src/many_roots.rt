@@ -32,8 +32,8 @@ static ON_MANY_ROOTS: [ReplayedText; 5] = [
         fault: Some(TraceFault::Refused(6, Refusal::NoSuchField)),
         live_words: 10,
         entries: &[
-            Only(0, 0, Kind::Reference, 5, T + 4),
-            Only(1, 1, Kind::Header, 0, 0x3fff_0001_0001_0001),
+            Only::Word(0, 0, Kind::Reference, 5, T + 4),
+            Only::Word(1, 1, Kind::Header, 0, 0x3fff_0001_0001_0001),
         ],
     },
     ReplayedText {

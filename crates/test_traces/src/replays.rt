@@ -5,7 +5,7 @@ use crate::text_runs::TextRun;
 use comp_journal::Entry;
 use comp_mutator::{Finished, Refusal};
 use comp_trace::{Shown, Stopped, TraceFault};
-use heap_layout::{Kind, TO_SPACE as T};
+use heap_layout::{Header, Kind, TO_SPACE as T};
 use page_plan::Plan;
 use std::alloc::Global;
 use std::marker::Brand;
@@ -14,8 +14,42 @@ use std::sync::ledger::Blank;
 use std::thread::Threads;
 use test_support::{At, Worked, plan_of};
 
-/// The only entry of a page, by mutator 0: the number of the page, and the stamp, kind, offset and value of the entry.
-pub struct Only(pub usize, pub u64, pub Kind, pub u8, pub u64);
+/// The only entry of a page, by mutator 0.
+#[derive(Clone, Copy)]
+pub enum Only {
+    /// The number of the page, and the stamp, kind, offset and value of the entry.
+    Word(usize, u64, Kind, u8, u64),
+    /// An object at the beginning of a page: the number of the page, the stamp of the entry, and of its header, which
+    /// is of edition one, the numbers of references and data words and the tag.
+    Made(usize, u64, u16, u16, u32),
+    /// The same of edition two: the numbers of references, weak words and data words and the tag.
+    MadeWeak(usize, u64, u16, u16, u16, u16),
+}
+
+impl Only {
+    // The number of the page, and the entry.
+    fn entry(self) -> (usize, Entry) {
+        let (page, stamp, kind, offset, value) = match self {
+            Only::Word(page, stamp, kind, offset, value) => (page, stamp, kind, offset, value),
+            Only::Made(page, stamp, refs, data, tag) => {
+                let header = Header::new(refs, data, tag).word();
+                (page, stamp, Kind::Header, 0, header)
+            }
+            Only::MadeWeak(page, stamp, refs, weak, data, tag) => {
+                let header = Header::new_weak(refs, weak, data, tag).word();
+                (page, stamp, Kind::Header, 0, header)
+            }
+        };
+        let entry = Entry {
+            stamp,
+            writer: 0,
+            kind,
+            offset,
+            value,
+        };
+        (page, entry)
+    }
+}
 
 /// A text, what its replay shows, and the finished heap.
 pub struct ReplayedText {
@@ -38,7 +72,7 @@ static ON_THREE: [ReplayedText; 11] = [
         shown: &[Shown { line: 6, value: 7 }],
         fault: None,
         live_words: 4,
-        entries: &[Only(0, 0, Kind::Data, 1, 7)],
+        entries: &[Only::Word(0, 0, Kind::Data, 1, 7)],
     },
     ReplayedText {
         case: TextRun {
@@ -63,8 +97,8 @@ static ON_THREE: [ReplayedText; 11] = [
         fault: None,
         live_words: 5,
         entries: &[
-            Only(1, 0, Kind::Header, 0, 0),
-            Only(0, 1, Kind::Reference, 3, T + 64),
+            Only::Word(1, 0, Kind::Header, 0, 0),
+            Only::Word(0, 1, Kind::Reference, 3, T + 64),
         ],
     },
     ReplayedText {
@@ -149,7 +183,7 @@ static ON_THREE: [ReplayedText; 11] = [
         shown: &[Shown { line: 4, value: 0 }],
         fault: Some(TraceFault::Refused(5, Refusal::NoSuchField)),
         live_words: 6,
-        entries: &[Only(1, 0, Kind::Header, 0, 281_474_976_776_192)],
+        entries: &[Only::Made(1, 0, 0, 1, 65_536)],
     },
     ReplayedText {
         case: TextRun {
@@ -178,8 +212,8 @@ static ON_WEAK: [ReplayedText; 4] = [
         fault: None,
         live_words: 8,
         entries: &[
-            Only(1, 0, Kind::Header, 0, 1_407_379_178_520_576),
-            Only(0, 1, Kind::Weak, 1, T + 64),
+            Only::MadeWeak(1, 0, 0, 1, 0, 5),
+            Only::Word(0, 1, Kind::Weak, 1, T + 64),
         ],
     },
     ReplayedText {
@@ -257,14 +291,7 @@ pub fn expect_replay(
 
 // Whether the page has this entry alone.
 fn has_only(finished: &Finished, only: &Only) -> bool {
-    let Only(page, stamp, kind, offset, value) = *only;
-    let entry = Entry {
-        stamp,
-        writer: 0,
-        kind,
-        offset,
-        value,
-    };
+    let (page, entry) = only.entry();
     match finished.pages().page(page) {
         Some(page) => page.journal() == [entry].as_slice(),
         _ => false,
