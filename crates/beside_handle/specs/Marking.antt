@@ -103,7 +103,8 @@ abbrev pub MeetsMarking : List ℕ → Option Kept → Option Kept → Answer �
 MeetsMarking values from left a =
     Asks 0 marking_in (λ m b. (after : Knowing) × (marking_in left ≡ Some after) × Meets values m after b) (left ≡ from) from a
 
--- why a marking stays that is to end, given whether the handle of the survey is full: another handle keeps a share of it
+-- why a marking stays that is to end, given whether the handle of the survey is full: another handle keeps a share of
+-- it
 abbrev pub IsUnendedMarking : Bool → Kept → Answer → Type 0
 IsUnendedMarking full k a =
     MatchOption (marking_in (Some k)) (a ≡ bare wrong_handle 0) (λ m. (IsTrue full × (a ≡ bare not_empty 1)) ⊎ (IsFalse full × (a ≡ bare still_shared 0)))

@@ -19,8 +19,8 @@ KeepsFree turns now = pages_in now ≡ Some (having turns has.Nothing)
 abbrev pub IsUnbegun : ℕ → Answer → Type 0
 IsUnbegun size a = ((size ≡ 0) × (a ≡ bare no_size 0)) ⊎ ((0 < size) × (a ≡ bare out_of_memory 0))
 
--- The survey went into turns, in pages of so many words; the answer has their number. Or its handle keeps it still, that
--- of the pages is empty, and the answer says why.
+-- The survey went into turns, in pages of so many words; the answer has their number. Or its handle keeps it still,
+-- that of the pages is empty, and the answer says why.
 abbrev pub BeginsFrom : ℕ → Found → Option Kept → Option Kept → Answer → Type 0
 BeginsFrom size found left now a =
     ((turns : TurnDesk) × (left ≡ None) × KeepsFree turns now × AreBegun found size turns × (a ≡ done turns.pages))

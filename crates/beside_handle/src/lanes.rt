@@ -149,8 +149,8 @@ pub fn waiting_lane(alloc: Global, h: &mut Handle, indices: &mut [u64]) -> Answe
     answer
 }
 
-/// Meets the objects to which these values lead, by the lane that a handle keeps: roots as they are now, or new objects.
-/// They are known then, and those that the lane claims wait. The answer is 1 if an object waits, else 0.
+/// Meets the objects to which these values lead, by the lane that a handle keeps: roots as they are now, or new
+/// objects. They are known then, and those that the lane claims wait. The answer is 1 if an object waits, else 0.
 pub fn meet_lane(alloc: Global, h: &mut Handle, values: &[u64]) -> Answer
     ensures { MeetsInLane values.now h.old.kept h.new.kept result }
 {
@@ -199,8 +199,8 @@ pub fn look_lane(alloc: Global, h: &mut Handle, rows: &[u64]) -> Answer
     }
 }
 
-/// Takes over the objects at these indices, which another lane gave: they wait here then, and are known. The answer is 1
-/// if an object waits, else 0.
+/// Takes over the objects at these indices, which another lane gave: they wait here then, and are known. The answer is
+/// 1 if an object waits, else 0.
 pub fn take_lane(alloc: Global, h: &mut Handle, indices: &[u64]) -> Answer
     ensures { TakesInLane indices.now h.old.kept h.new.kept result }
 {
@@ -255,8 +255,8 @@ fn unjoined(fault: JoinFault) -> Answer
     }
 }
 
-/// Joins the lane that the second handle keeps to that of the first one, and the second one is empty then. The answer is
-/// 1 if an object waits, else 0. If they are refused, both are gone.
+/// Joins the lane that the second handle keeps to that of the first one, and the second one is empty then. The answer
+/// is 1 if an object waits, else 0. If they are refused, both are gone.
 pub fn join_lanes(alloc: Global, h: &mut Handle, other: &mut Handle) -> Answer
     ensures { JoinsLanes h.old.kept h.new.kept other.old.kept other.new.kept result }
 {
@@ -299,9 +299,9 @@ pub fn join_lanes(alloc: Global, h: &mut Handle, other: &mut Handle) -> Answer
     }
 }
 
-/// Makes the whole marking of a lane to which all others were joined; another handle, which was empty, keeps it then, and
-/// that of the lane is empty. The answer is 1 if an object waits, else 0. If an object is known that no lane has, the
-/// answer has its index, the lane is gone, and nothing is kept. Takes no memory.
+/// Makes the whole marking of a lane to which all others were joined; another handle, which was empty, keeps it then,
+/// and that of the lane is empty. The answer is 1 if an object waits, else 0. If an object is known that no lane has,
+/// the answer has its index, the lane is gone, and nothing is kept. Takes no memory.
 pub fn whole_lane(alloc: Global, lane: &mut Handle, looks: &mut Handle) -> Answer
     ensures { WholesLane lane.old.kept lane.new.kept looks.old.kept looks.new.kept result }
 {

@@ -87,8 +87,8 @@ fn build(pages: &mut Paging, words: &[u64], page: &mut [u64]) -> Answer
 
 /// Fills the memory of the page whose turn the handle has, with the words that slide there out of `words`, which are
 /// those of from-space. The handle may publish the page then. If the page has another number of words, or the words are
-/// not those of the survey, the handle has no turn any more, and the page waits again. If it has no turn, or the page is
-/// built, nothing changes.
+/// not those of the survey, the handle has no turn any more, and the page waits again. If it has no turn, or the page
+/// is built, nothing changes.
 pub fn build_page(alloc: Global, h: &mut Handle, words: &[u64], page: &mut [u64]) -> Answer
     ensures { Touches (Builds words.now page.old page.new) (page.new ≡ page.old) h.old.kept h.new.kept result }
 {

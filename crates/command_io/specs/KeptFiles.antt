@@ -23,14 +23,14 @@ pub record FailsFlush {F W : Type 0} (disk : Disk F W) (contents : W → Option 
   pub same : Keeps (contents (inner_of written)) (contents failed)
   pub counted : disk.counts (one_more (failures_of written)) to
 
--- What files leave that could not keep what a writer took, so many calls of which had failed: they are these since, once
--- these calls and one more are counted, as `counts` says; or memory ran out, and they are as they were.
+-- What files leave that could not keep what a writer took, so many calls of which had failed: they are these since,
+-- once these calls and one more are counted, as `counts` says; or memory ran out, and they are as they were.
 abbrev pub LeavesUnkept : {F : Type 0} → F → F → ℕ → (ℕ → F → Type 0) → Unkept → Type 0
 LeavesUnkept from to failures counts Device = counts (one_more failures) to
 LeavesUnkept from to failures counts OutOfMemory = to ≡ from
 
--- why what a writer took was not kept: its flush or the keeping failed, or memory ran out, and then the files are as they
--- were
+-- why what a writer took was not kept: its flush or the keeping failed, or memory ran out, and then the files are as
+-- they were
 abbrev pub IsOfKeeping : {F W : Type 0} → Disk F W → (W → Option (List ℕ)) → Counted W → F → F → Unkept → Type 0
 IsOfKeeping disk contents written from to Device = FailsFlush disk contents written to
 IsOfKeeping disk contents written from to OutOfMemory = to ≡ from

@@ -34,8 +34,8 @@ pub fn marks_at<F: Files>(
     end_reading(files, reader, read)
 }
 
-// Reads marks to the end of the reader, or to a line that is too long. Refuses if a call of the reader fails, if a line is no mark, with the number
-// of the first such line, and if memory runs out.
+// Reads marks to the end of the reader, or to a line that is too long. Refuses if a call of the reader fails, if a line
+// is no mark, with the number of the first such line, and if memory runs out.
 fn marks_in<S: Read>(alloc: Global, r: &mut Counted<S>) -> Result<Vec<u32>, CommandRefusal>
     requires read { failures_of r.old < 2 ^ 64 - 1 }
     ensures marks { IfOk result (λ marks. SomeText (λ text. marks_of text ≡ Ok marks.items) (S.remaining (inner_of r.old))) }

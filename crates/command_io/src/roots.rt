@@ -18,9 +18,9 @@ use std::alloc::Global;
 use std::io::Read;
 
 /// Reads the roots whose text is at a path, for this number of mutators. Refuses if the file cannot be opened or read,
-/// if a line of it is no root, with the number of the first such line, and if memory runs out. A line of more than 1,024
-/// bytes is no root, and nothing is read after these. The files count a failed call if the refusal names one; else they
-/// stay as they were.
+/// if a line of it is no root, with the number of the first such line, and if memory runs out. A line of more than
+/// 1,024 bytes is no root, and nothing is read after these. The files count a failed call if the refusal names one;
+/// else they stay as they were.
 pub fn roots_at<F: Files>(
     alloc: Global,
     files: &mut F,
@@ -37,8 +37,8 @@ pub fn roots_at<F: Files>(
     end_reading(files, reader, read)
 }
 
-// Reads roots to the end of the reader, or to a line that is too long, for this number of mutators. Refuses if a call of the reader fails, if a line
-// is no root, with the number of the first such line, and if memory runs out.
+// Reads roots to the end of the reader, or to a line that is too long, for this number of mutators. Refuses if a call
+// of the reader fails, if a line is no root, with the number of the first such line, and if memory runs out.
 fn roots_in<S: Read>(
     alloc: Global,
     r: &mut Counted<S>,

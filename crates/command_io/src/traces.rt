@@ -38,7 +38,8 @@ pub fn trace_at<F: Files>(
     end_reading(files, reader, read)
 }
 
-// Reads a trace to the end of the reader, or to a line that is too long, for these numbers of mutators and shared roots.
+// Reads a trace to the end of the reader, or to a line that is too long, for these numbers of mutators and shared
+// roots.
 fn trace_in<S: Read>(
     alloc: Global,
     r: &mut Counted<S>,

@@ -172,9 +172,9 @@ IsMarked parts outcome =
     ((heap : Heap) × IsMarkedHeap parts heap × (outcome ≡ makes outputs.New (encoding heap) (live_line heap)))
     ⊎ ((refusal : CommandRefusal) × IsUnmarkable parts refusal × (outcome ≡ stops [] refusal))
 
--- The heap of these parts was collected by its roots, whatever their marks are: exactly the objects were marked that its
--- roots reach, and it is sound; nothing is said of its other words. What is left is accepted, and its roots reach all
--- its objects.
+-- The heap of these parts was collected by its roots, whatever their marks are: exactly the objects were marked that
+-- its roots reach, and it is sound; nothing is said of its other words. What is left is accepted, and its roots reach
+-- all its objects.
 pub record IsCollectedHeap (parts next : Heap) : Type 0 where
   pub heap : Heap
   pub same : heap ≡ remarked parts heap.marks

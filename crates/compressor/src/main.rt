@@ -17,8 +17,8 @@ fn main(rt: HostRuntime) -> ExitCode {
     ExitCode::from(start(&rt, &mut Counted::new(&mut err)))
 }
 
-// Fetches the words, sets up standard output with a buffer, and does what the words ask for. No call of `err` has failed
-// before.
+// Fetches the words, sets up standard output with a buffer, and does what the words ask for. No call of `err` has
+// failed before.
 fn start<R: Env + Files + Print + AllocGlobal + Threads + Wait + Sync, E: Write>(
     rt: &R,
     err: &mut Counted<&mut E>,

@@ -128,9 +128,9 @@ fn slide<'m>(
 
 impl<'m> Desk<'m> {
     /// Begins to slide out of these words, of which the survey found this, into `to`, in pages of so many words. It
-    /// borrows both, and writes neither. It takes 24 bytes a page, and up to 40 more until it returns. Err if a page has
-    /// no words, if `to` has not as many words as slide, or if memory runs out, in this order; then what was found comes
-    /// back.
+    /// borrows both, and writes neither. It takes 24 bytes a page, and up to 40 more until it returns. Err if a page
+    /// has no words, if `to` has not as many words as slide, or if memory runs out, in this order; then what was found
+    /// comes back.
     pub fn begin(
         alloc: Global,
         places: Places,
@@ -213,8 +213,8 @@ impl<'m> Desk<'m> {
 
     /// Builds a page, which this thread then has alone, until it publishes it. Any threads may call it at the same
     /// time. It tries once to take the page. Err if there is no such page, if it is home, if another thread has it, or
-    /// if the words are not those of the survey, in this order. The desk is then as it was: a page that is refused waits
-    /// again.
+    /// if the words are not those of the survey, in this order. The desk is then as it was: a page that is refused
+    /// waits again.
     pub fn touch(&self, page: usize) -> Result<Built<'m>, NotBuilt<'m>>
         ensures inside { OnOk result (page < self.now.pages) }
         ensures built { IfOk result (λ built. built ≡ built_page self.now page) }

@@ -46,8 +46,6 @@ mod pages;
 mod rows;
 mod rule;
 mod source;
-#[cfg(test)]
-mod tests;
 mod turn;
 mod turn_rule;
 mod turn_view;

@@ -38,8 +38,8 @@ pub enum TurnFault {
     Slide(SlideFault),
 }
 
-/// A page that was not built: why, and what this thread saw at the step at which it put the page back. The turn is gone,
-/// and from that step on the page waits again, for any thread.
+/// A page that was not built: why, and what this thread saw at the step at which it put the page back. The turn is
+/// gone, and from that step on the page waits again, for any thread.
 #[derive(Drop)]
 pub struct NotFilled {
     pub fault: TurnFault,
@@ -115,9 +115,9 @@ pub struct NotEndedTurns {
     pub sight: TurnSight,
 }
 
-/// Who builds which page of a slide. It has a share of what the survey found, and nothing of from-space nor of to-space:
-/// the caller lends words and page to each build. Threads may share it, by reference or in an `Arc`. Contracts see what
-/// the survey found, how many words a page has, how many pages there are, and which turns they are.
+/// Who builds which page of a slide. It has a share of what the survey found, and nothing of from-space nor of
+/// to-space: the caller lends words and page to each build. Threads may share it, by reference or in an `Arc`.
+/// Contracts see what the survey found, how many words a page has, how many pages there are, and which turns they are.
 #[derive(Drop)]
 pub struct Turns {
     pub(crate) places: Arc<Places>,
@@ -156,9 +156,9 @@ fn count_pages(live: usize, size: usize) -> usize
 }
 
 impl Turns {
-    /// Begins to slide a heap of which the survey found this, in pages of so many words. It takes 8 bytes a page, and as
-    /// many more until it returns. Err if a page has no words, or if memory runs out, in this order; then the share of
-    /// what was found comes back.
+    /// Begins to slide a heap of which the survey found this, in pages of so many words. It takes 8 bytes a page, and
+    /// as many more until it returns. Err if a page has no words, or if memory runs out, in this order; then the share
+    /// of what was found comes back.
     pub fn begin(alloc: Global, places: Arc<Places>, size: usize) -> Result<Turns, NotBegunTurns>
         ensures begun { IfOk result (AreBegun places.value size) }
         ensures refused { IfErr result (AreNotBegun places.value size) }
@@ -217,8 +217,8 @@ impl Turns {
     }
 
     /// Takes the turn for a page, which this thread then has alone. Any threads may call it at the same time. It tries
-    /// once. Err if there is no such page, if it is home, or if another thread has it, in this order. The turns are then
-    /// as they were.
+    /// once. Err if there is no such page, if it is home, or if another thread has it, in this order. The turns are
+    /// then as they were.
     pub fn claim(&self, page: usize) -> Result<Turn, NotHad>
         ensures inside { OnOk result (page < self.now.pages) }
         ensures turn { IfOk result (λ turn. turn ≡ page_id self.now.id page) }

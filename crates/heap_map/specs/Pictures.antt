@@ -63,7 +63,8 @@ abbrev pub ShowsTo : Scale → ℕ → Heap → List ℕ → Type 0
 ShowsTo Words top heap text = StandIn (live_cells top heap (to_place heap)) text
 ShowsTo (Pages k) top heap text = ShowsCells top (cell_count (Pages k) (pages (live heap))) (λ _ name. IsShade name) text
 
--- so many pages of a dump from page `first` on: by words each page in its row, by pages each cell, hatched or in a shade
+-- so many pages of a dump from page `first` on: by words each page in its row, by pages each cell, hatched or in a
+-- shade
 abbrev pub ShowsDump : Scale → ℕ → Dumped → ℕ → ℕ → List ℕ → Type 0
 ShowsDump Words top dump first count text = StandIn (page_rows top dump first count) text
 ShowsDump (Pages k) top dump first count text = ShowsCells top (cell_count (Pages k) count) (IsDumpCell k dump first count) text

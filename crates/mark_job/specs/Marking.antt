@@ -66,8 +66,8 @@ IsTakingFaultOf edition roots (given.NotARun i) = Unit {0}
 IsTakingFaultOf edition roots (given.PastEnd i) = Unit {0}
 IsTakingFaultOf edition roots given.OutOfMemory = Unit {0}
 
--- Why a marking does not end with these roots. What the helpers did is not known, but a root that is refused may lead to
--- an object, and there are too many roots only if it is so.
+-- Why a marking does not end with these roots. What the helpers did is not known, but a root that is refused may lead
+-- to an object, and there are too many roots only if it is so.
 abbrev pub IsEndFaultOf : Edition → List ℕ → MarkingEnd → Type 0
 IsEndFaultOf edition roots end.Waiting = Unit {0}
 IsEndFaultOf edition roots end.NoMemory = Unit {0}

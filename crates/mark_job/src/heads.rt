@@ -41,8 +41,8 @@ impl Play<(), MetView> for SeeHeads {
     ghost then = { sees };
 }
 
-/// What is known of the objects that were met: a receipt of `Marking::meet`. It has no bytes. Contracts see the table of
-/// the bits, by its name, and the bits that are known to be set.
+/// What is known of the objects that were met: a receipt of `Marking::meet`. It has no bytes. Contracts see the table
+/// of the bits, by its name, and the bits that are known to be set.
 #[derive(Drop)]
 pub struct Met {
     pub(crate) seat: Seat<(), MetView>,

@@ -36,8 +36,8 @@ impl Model for Job {
 impl Job {
     /// Begins to mark what these roots reach in these words. The job keeps both until it is finished. Of the heap it
     /// looks at the roots alone. It takes a bit for each word, and in the course of the job 4 bytes for each object
-    /// that is met. Err with `TooLarge` if there are too many words or roots for the edition; if not, with `OutOfMemory`,
-    /// if memory runs out; then the words and roots come back. A fault of the heap comes out at the end.
+    /// that is met. Err with `TooLarge` if there are too many words or roots for the edition; if not, with
+    /// `OutOfMemory`, if memory runs out; then the words and roots come back. A fault of the heap comes out at the end.
     pub fn begin(
         alloc: Global,
         edition: Edition,

@@ -46,13 +46,9 @@ mod laws;
 mod looking;
 mod marking;
 mod marking_fault;
-#[cfg(test)]
-mod marking_tests;
 mod met_view;
 mod rule;
 mod surveying;
-#[cfg(test)]
-mod tests;
 mod view;
 mod waiting;
 

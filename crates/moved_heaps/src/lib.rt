@@ -31,6 +31,3 @@ pub use laws::{
 };
 pub use moved_heap::MovedHeap;
 pub use reading::read_moved;
-
-#[cfg(test)]
-mod tests;

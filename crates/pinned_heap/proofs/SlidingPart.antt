@@ -86,7 +86,8 @@ module _ (edition : Edition) (heads bits stays : List ℕ) (low by : ℕ) (part 
 
 -- ---- what is slid so far
 
--- The objects before index `next` are slid, and end at word `place` of the part. From there on the words are as they were.
+-- The objects before index `next` are slid, and end at word `place` of the part. From there on the words are as they
+-- were.
 pub record IsSlidTo (edition : Edition) (heads bits stays : List ℕ) (low : ℕ) (old : List ℕ) (next place : ℕ) (words : List ℕ) : Type 0 where
   pub from : low ≤ next
   pub down : low + place ≤ next

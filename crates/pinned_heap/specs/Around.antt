@@ -62,8 +62,8 @@ IsFilled Four words run = slice_index words run.start ≡ filler_word (run.end -
 abbrev pub led_object : (ℕ → Bool) → Heap → ℕ → List ℕ
 led_object staying heap k = led_words (led_around heap.edition staying (live heap)) (object_at heap.edition heap.words (slice_index heap.marks k))
 
--- The live objects of a heap slid within its words, which were `heap.words` and are `after`: each stands at its place, with
--- its references and weak words led; the runs between them are filled; and behind the last one nothing changed.
+-- The live objects of a heap slid within its words, which were `heap.words` and are `after`: each stands at its place,
+-- with its references and weak words led; the runs between them are filled; and behind the last one nothing changed.
 pub record IsSlidAround (heap : Heap) (staying : ℕ → Bool) (after : List ℕ) : Type 0 where
   pub long : length after ≡ length heap.words
   pub objects : (k : ℕ) → k < length heap.marks

@@ -13,8 +13,8 @@ use Rattle.pinned_heap.specs.declared.fault.CollectPinnedFault.TheVariants.{Surv
 use Rattle.pinned_heap.specs.declared.run.Run.{Run}
 
 -- The heap was collected within its words, and the objects at the pins stayed: its live objects slid around them, its
--- roots lead there, `runs` are the runs of free words between its objects, and behind `end` all words are free. The words
--- are `after` then, and `roots` the roots.
+-- roots lead there, `runs` are the runs of free words between its objects, and behind `end` all words are free. The
+-- words are `after` then, and `roots` the roots.
 pub record IsCollectedAround (heap : Heap) (pins : List ℕ) (end : ℕ) (runs : List Run) (roots after : List ℕ) : Type 0 where
   pub sound : IsSound heap
   pub pinned : All (λ pin. is_address_of (live heap) pin ≡ true) pins
@@ -42,9 +42,9 @@ LeavesRuns edition words roots pins count =
     × All (λ pin. is_address_of (live (record { edition = edition; words = words; marks = marks; roots = roots })) pin ≡ true) pins
     × (count ≡ length (runs_from (stays pins) 0 (live (record { edition = edition; words = words; marks = marks; roots = roots }))))
 
--- Why a heap is not collected so, where at most so many runs are wanted: it is too large, or there are too many pins; or
--- not, and a pin is not the address of a word, or the fault is one of the words, and what the roots and the pins reach
--- there, or it would leave more runs, or memory ran out.
+-- Why a heap is not collected so, where at most so many runs are wanted: it is too large, or there are too many pins;
+-- or not, and a pin is not the address of a word, or the fault is one of the words, and what the roots and the pins
+-- reach there, or it would leave more runs, or memory ran out.
 abbrev pub RefusesPinned : Edition → List ℕ → List ℕ → List ℕ → ℕ → CollectPinnedFault → Type 0
 RefusesPinned edition words roots pins most (Survey TooLarge) = (most_words edition < length words) ⊎ ((most_roots edition < length roots) ⊎ (most_roots edition < length pins))
 RefusesPinned edition words roots pins most (Survey (BadRoot k)) = AreFewWith edition words roots pins × IsHeapFaultOf edition words roots (BadRoot k)

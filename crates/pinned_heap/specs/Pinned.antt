@@ -42,8 +42,8 @@ IsPinFault found pins (pin.BadPin k) =
 IsPinFault found pins pin.OutOfMemory = Unit {0}
 
 -- The tables of a slide around objects that stay: `heads`, `bits` and `counts` are those of what was found, `stays` has
--- the bits of those that stay, `bases` are the bases of these, `runs` the runs of free words, and behind `end` all words
--- are free.
+-- the bits of those that stay, `bases` are the bases of these, `runs` the runs of free words, and behind `end` all
+-- words are free.
 pub record AreTablesAround (found : Found) (heads bits counts stays bases : List ℕ) (runs : List Run) (end : ℕ) : Type 0 where
   pub marks : marks_of heads ≡ found.marks
   pub indices : set_bits bits ≡ found.indices

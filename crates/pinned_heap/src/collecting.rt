@@ -113,11 +113,11 @@ fn leave(pinned: Pinned<'_>, roots: &mut [u64]) -> Collected
     }
 }
 
-/// Collects the heap of these words and roots within the words, and leaves the objects at the pins where they are: their
-/// addresses stay. Each pin keeps its object, and what that reaches, as a root does. The other objects slide down around
-/// them, each behind the one before, and the roots lead there. Ok with where the last object ends, and with the runs of
-/// free words below it; each run is filled with objects that nobody looks at. The words behind the last object are as
-/// they were. Without pins it leaves what `collect_in_place` of stopped_heap does (`without_pins_in_place`).
+/// Collects the heap of these words and roots within the words, and leaves the objects at the pins where they are:
+/// their addresses stay. Each pin keeps its object, and what that reaches, as a root does. The other objects slide down
+/// around them, each behind the one before, and the roots lead there. Ok with where the last object ends, and with the
+/// runs of free words below it; each run is filled with objects that nobody looks at. The words behind the last object
+/// are as they were. Without pins it leaves what `collect_in_place` of stopped_heap does (`without_pins_in_place`).
 ///
 /// Err if the heap is refused, if a pin is not the address of a word, if it would leave more than `most` runs, or if
 /// memory runs out; then neither the words nor the roots have changed. There are never more runs than pins. Beside what

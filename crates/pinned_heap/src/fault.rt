@@ -6,8 +6,8 @@ use thiserror::Error;
 /// Why objects are not pinned.
 #[derive(Clone, Copy, Debug, PartialEq, Eq, Error)]
 pub enum PinFault {
-    /// The pin with this number is not the address of a live object; it may be null or an immediate. It is the first one
-    /// that is not.
+    /// The pin with this number is not the address of a live object; it may be null or an immediate. It is the first
+    /// one that is not.
     #[error("pin {0} is not the address of a live object")]
     BadPin(u64),
     /// An allocation failed.
@@ -30,8 +30,8 @@ impl From<AllocError> for PinFault {
 /// promised: the fault that is answered is there, and there may be others too.
 #[derive(Clone, Copy, Debug, PartialEq, Eq, Error)]
 pub enum CollectPinnedFault {
-    /// The heap is refused, or memory ran out. `TooLarge` may mean that there are more pins than the edition allows roots.
-    /// An object that is reached may be reached from a pin.
+    /// The heap is refused, or memory ran out. `TooLarge` may mean that there are more pins than the edition allows
+    /// roots. An object that is reached may be reached from a pin.
     #[error("{0}")]
     Survey(SurveyFault),
     /// The pin with this number is not the address of one of the words; it may be null or an immediate.

@@ -4,8 +4,8 @@ ghost use Rattle.pinned_heap.specs.Around.{IsFilled};
 
 use heap_layout::Edition;
 
-/// Fills the words from index `start` on, up to index `end`: with zeros in editions one and two, where each is an object,
-/// and else with one header of an object that has them all. It does nothing if there are none.
+/// Fills the words from index `start` on, up to index `end`: with zeros in editions one and two, where each is an
+/// object, and else with one header of an object that has them all. It does nothing if there are none.
 pub(crate) fn fill_run(edition: Edition, words: &mut [u64], start: usize, end: usize)
     requires order { start ≤ end }
     requires inside { end ≤ length words.old }

@@ -1,7 +1,7 @@
-//! A collection of a heap at rest that leaves some objects where they are: those that a runtime has pinned, since words of
-//! a C stack may be their addresses, or a system call fills their words. All others slide as ever, each behind the one
-//! before it, in the order of their addresses. So nothing moves up, and the free words below the last live object lie in
-//! runs, one right before each pinned object.
+//! A collection of a heap at rest that leaves some objects where they are: those that a runtime has pinned, since words
+//! of a C stack may be their addresses, or a system call fills their words. All others slide as ever, each behind the
+//! one before it, in the order of their addresses. So nothing moves up, and the free words below the last live object
+//! lie in runs, one right before each pinned object.
 //!
 //! The modules, in the order in which to read them:
 //!
@@ -29,8 +29,6 @@ mod pinning;
 mod placing;
 mod run;
 mod sliding;
-#[cfg(test)]
-mod tests;
 
 pub use collecting::{Collected, collect_pinned, collect_pinned_by_threads};
 pub use fault::{CollectPinnedFault, PinFault};

@@ -18,10 +18,10 @@ use std::marker::Model;
 use std::thread::Threads;
 use stopped_heap::{LiveBits, Places};
 
-/// What a survey found, of which some objects stay where they are. Beside the tables of the survey it keeps a bit a word,
-/// 4 bytes for each 64 words, and the runs of free words that the slide leaves. Contracts see what was found, and the
-/// indices of the objects that stay, as `still`; `objects_in` are the live objects as they are in some words, and `led_in`
-/// says where words lead.
+/// What a survey found, of which some objects stay where they are. Beside the tables of the survey it keeps a bit a
+/// word, 4 bytes for each 64 words, and the runs of free words that the slide leaves. Contracts see what was found, and
+/// the indices of the objects that stay, as `still`; `objects_in` are the live objects as they are in some words, and
+/// `led_in` says where words lead.
 #[derive(Drop)]
 pub struct Pinned<'p> {
     places: &'p Places,
@@ -47,8 +47,8 @@ impl<'p> Model for Pinned<'p> {
 }
 
 impl<'p> Pinned<'p> {
-    /// Pins the objects at these addresses: they stay where they are. Err with the first pin that is not the address of a
-    /// live object, or if memory runs out.
+    /// Pins the objects at these addresses: they stay where they are. Err with the first pin that is not the address of
+    /// a live object, or if memory runs out.
     pub fn of(alloc: Global, places: &'p Places, pins: &[u64]) -> Result<Pinned<'p>, PinFault>
         ensures found { IfOk result (λ pinned. pinned.found ≡ places.now) }
         ensures staying { IfOk result (λ pinned. (i : ℕ) → is_still pinned i ≡ stays pins.now i) }

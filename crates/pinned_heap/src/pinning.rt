@@ -7,9 +7,9 @@ ghost use Rattle.pinned_heap.specs.Tables.{is_pin};
 use crate::placing::object_of;
 use heap_layout::{Edition, set};
 
-/// Sets the bit of each pin in `stays`, in which no bit may be set. A pin must be the address of a live object, of which
-/// `heads` has the bits: the first one that is not is refused, by its number, as null and an immediate are. Then the bits
-/// of the pins before it are set.
+/// Sets the bit of each pin in `stays`, in which no bit may be set. A pin must be the address of a live object, of
+/// which `heads` has the bits: the first one that is not is refused, by its number, as null and an immediate are. Then
+/// the bits of the pins before it are set.
 pub(crate) fn pin_all(
     edition: Edition,
     heads: &[u64],

@@ -7,8 +7,8 @@ ghost use Rattle.pinned_heap.specs.Tables.{kept_at_place, led_to_place, place_by
 
 use heap_layout::{Edition, FROM_SPACE, is_set};
 
-/// Where word `i` goes, if it is live: to its own index if it is the first word of an object that stays, and else to the
-/// words behind the live words below it.
+/// Where word `i` goes, if it is live: to its own index if it is the first word of an object that stays, and else to
+/// the words behind the live words below it.
 #[inline(always)]
 pub(crate) fn place_of(bits: &[u64], stays: &[u64], bases: &[u32], i: usize) -> u64
     requires bases { AreBases bits.now stays.now bases.now }

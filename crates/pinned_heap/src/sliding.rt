@@ -1,5 +1,5 @@
-//! Slides live objects down around those that stay, within the words in which they lie. No object moves up, so each word
-//! is read before another one is written over it, if the words are taken from low to high.
+//! Slides live objects down around those that stay, within the words in which they lie. No object moves up, so each
+//! word is read before another one is written over it, if the words are taken from low to high.
 ghost use Rattle.std.specs.Prelude.{◌≡◌, ℕ, ◌+◌, ◌-◌, ◌*◌, ◌<◌, ◌^◌, ◌≤◌, ◌⊎◌, true, false, cond, length, slice_index};
 ghost use Rattle.heap_layout.specs.Bits.{bit};
 ghost use Rattle.heap_layout.specs.Values.{is_immediate};

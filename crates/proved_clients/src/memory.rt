@@ -34,8 +34,8 @@ pub fn replay_in_memory<R: Threads + Wait + Sync, O: Write>(
     perform(alloc, rt, files, Task::Replay(asked), out)
 }
 
-/// Races a trace over files in memory. If it is done, the dump of the run is at its path, whole, and each other path has
-/// what it had; if not, the files are as `replay_in_memory` says.
+/// Races a trace over files in memory. If it is done, the dump of the run is at its path, whole, and each other path
+/// has what it had; if not, the files are as `replay_in_memory` says.
 pub fn race_in_memory<R: Threads + Wait + Sync, O: Write>(
     alloc: Global,
     rt: &R,

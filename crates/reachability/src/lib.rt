@@ -21,6 +21,3 @@ pub use heaps::{
 pub use laws::{reachable_are_least, reachable_marks_are_sound, reachable_once};
 pub use marker::reachable_marks;
 pub use rounds::reachable_marks_by_threads;
-
-#[cfg(test)]
-mod tests;

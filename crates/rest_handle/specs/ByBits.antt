@@ -37,8 +37,8 @@ pub record IsGivenOf (edition : Edition) (count : ℕ) (roots heads bits : List 
   pub few_roots : length roots ≤ most_roots edition
   pub roots_lead : All (IsValue found.edition found.marks) roots
 
--- The handle keeps what the bits say, and where it slides; the answer has the number of live words. Or it keeps nothing,
--- and the answer says why.
+-- The handle keeps what the bits say, and where it slides; the answer has the number of live words. Or it keeps
+-- nothing, and the answer says why.
 abbrev pub TakesBits : ℕ → ℕ → List ℕ → List ℕ → List ℕ → Option Kept → Answer → Edition → Type 0
 TakesBits n count roots heads bits now a edition =
     ((found : Found) × (survey_in now ≡ Some found) × IsGivenOf edition count roots heads bits found × (a ≡ done (length found.indices)))

@@ -1,5 +1,5 @@
--- A survey that grows, by handles. The words are lent at each call: no clause asks that they are as they were, and what is
--- said of them is said if what was found so far is found in them.
+-- A survey that grows, by handles. The words are lent at each call: no clause asks that they are as they were, and what
+-- is said of them is said if what was found so far is found in them.
 use Rattle.std.specs.Prelude.{◌≡◌, ◌≢◌, ℕ, ◌<◌, ◌≤◌, ◌⊎◌, true, false, List, [], All, length, Option, None, Some}
 use Rattle.heap_layout.specs.Heap.{is_value, Heap, IsValue}
 use Rattle.heap_layout.specs.Versions.{version_of}
@@ -57,9 +57,9 @@ IsUnbegunIn edition words tables a =
 abbrev pub IsUnbegun : ℕ → List ℕ → Reserved → Answer → Type 0
 IsUnbegun n words tables a = OfEdition n (λ edition. IsUnbegunIn edition words tables a) (Unit {0}) a
 
--- A survey was to grow in so many words. The handle keeps what it has then, and the answer has the number of objects that
--- it keeps; or there are not as many words as it is of, and it stays; or there are, and it is over: the handle keeps its
--- tables, and the answer says why. Memory runs out only if the tables have room for fewer words.
+-- A survey was to grow in so many words. The handle keeps what it has then, and the answer has the number of objects
+-- that it keeps; or there are not as many words as it is of, and it stays; or there are, and it is over: the handle
+-- keeps its tables, and the answer says why. Memory runs out only if the tables have room for fewer words.
 abbrev pub GrowsIn : (Found → Type 0) → (SurveyFault → Type 0) → ℕ → Found → Option Kept → Answer → Type 0
 GrowsIn Has Why many found now a =
     ((many ≡ found.count) × ((after : Found) × (growing_in now ≡ Some after) × Has after × (a ≡ done (length after.marks))))
@@ -90,8 +90,8 @@ SaysKept word found a =
 abbrev pub EndsGrowing : Found → Option Kept → Answer → Type 0
 EndsGrowing found now a = (survey_in now ≡ Some found) × ((heap : Heap) × IsFoundOf found heap) × (a ≡ done (length found.indices))
 
--- The survey that grew goes, and the second handle, which was empty, keeps it; or there is no memory, and the first handle
--- keeps its tables.
+-- The survey that grew goes, and the second handle, which was empty, keeps it; or there is no memory, and the first
+-- handle keeps its tables.
 abbrev pub SettlesGrowing : Option Kept → Option Kept → Option Kept → Option Kept → Answer → Type 0
 SettlesGrowing from left to new a =
     Asks 0 growing_in (λ found b.

@@ -10,8 +10,8 @@ use Rattle.rest_handle.specs.Resting.{asked}
 use Rattle.handle_base.specs.declared.answer.Answer.{Answer}
 use Rattle.handle_base.specs.declared.kept.Kept.{Kept}
 
--- The handle keeps a job that marks this heap, which is not too large; or it keeps nothing, and the answer says why: the
--- heap is too large, or memory ran out.
+-- The handle keeps a job that marks this heap, which is not too large; or it keeps nothing, and the answer says why:
+-- the heap is too large, or memory ran out.
 abbrev pub Begins : Asked → Option Kept → Answer → Type 0
 Begins heap now a =
     ((job_in now ≡ Some heap) × (a ≡ done 0) × IsSmall heap)

@@ -64,8 +64,8 @@ SurveysLent n words roots tables now a =
 abbrev pub IsSoundWithin : Asked → Reserved → Type 0
 IsSoundWithin heap tables = (length heap.words ≤ tables.room) × ((found : Found) × IsMarkedOf heap found)
 
--- Why they do not: a fault, which is never for want of memory. Or there is no memory for the survey's own few bytes, and
--- no fault, and room for the heap.
+-- Why they do not: a fault, which is never for want of memory. Or there is no memory for the survey's own few bytes,
+-- and no fault, and room for the heap.
 abbrev pub IsUnlentIn : Asked → Reserved → Answer → Type 0
 IsUnlentIn heap tables a =
     ((fault : LentFault) × (a ≡ of_lent fault) × IsLentFaultOf heap.edition heap.words heap.roots tables.room fault)

@@ -25,9 +25,9 @@ run_ends run = run.start ∷ run.end ∷ []
 abbrev pub AreListed : List Run → List ℕ → List ℕ → Type 0
 AreListed runs before after = (2 * length runs ≤ length before) × (after ≡ flat_map run_ends runs ++ drop (2 * length runs) before)
 
--- The heap was collected within its words, and the objects at the pins stayed: the answer has where the last live object
--- ends, `free` lists the runs of free words below that, and `count` is how many they are. Or words, roots, the list and
--- the count are as they were, and the answer says why; the runs for which the list has no room are one reason.
+-- The heap was collected within its words, and the objects at the pins stayed: the answer has where the last live
+-- object ends, `free` lists the runs of free words below that, and `count` is how many they are. Or words, roots, the
+-- list and the count are as they were, and the answer says why; the runs for which the list has no room are one reason.
 abbrev pub CollectsPinnedOf : Edition → List ℕ → List ℕ → List ℕ → List ℕ → List ℕ → List ℕ → List ℕ → ℕ → ℕ → Answer → Type 0
 CollectsPinnedOf edition before after roots new_roots pins list free was count a =
     ((end : ℕ) × (runs : List Run) × (a ≡ done end) × HasCollectedAround edition before roots pins end runs new_roots after

@@ -75,8 +75,8 @@ pub record IsTakenOf (heap : Asked) (bits : List ℕ) (found : Found) : Type 0 w
   pub long : length bits ≡ (length heap.words + 63) / 64
   pub places : IsFoundOf found (record { edition = heap.edition; words = heap.words; marks = found.marks; roots = heap.roots })
 
--- Why marks are not taken: there is not a bit for each word, which is asked before all else; or there is, and the heap or
--- the marks are refused.
+-- Why marks are not taken: there is not a bit for each word, which is asked before all else; or there is, and the heap
+-- or the marks are refused.
 abbrev pub RefusesMarks : Asked → List ℕ → MarksFault → Type 0
 RefusesMarks heap bits fault =
     ((fault ≡ refusal.WrongLength) × (length bits ≢ (length heap.words + 63) / 64))

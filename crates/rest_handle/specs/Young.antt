@@ -130,8 +130,8 @@ abbrev pub CollectsYoungBy : ℕ → List ℕ → List ℕ → List ℕ → List
 CollectsYoungBy n before after list sorted roots new_roots t u a =
     OfEdition n (λ edition. CollectsYoungByOf edition before after list sorted roots new_roots t u a) ((after ≡ before) × (sorted ≡ list) × (new_roots ≡ roots) × (u ≡ t)) a
 
--- What is young was collected by cards, but the new watermark parts the objects that the last collection left from those
--- that were allocated since, which stay young; and the cards, `made`, are made anew: if the mutators kept what is
+-- What is young was collected by cards, but the new watermark parts the objects that the last collection left from
+-- those that were allocated since, which stay young; and the cards, `made`, are made anew: if the mutators kept what is
 -- believed, just those are dirty that have a word of an old object that does not lead below.
 pub record HasAged (edition : Edition) (before after cards made roots new_roots : List ℕ) (t u : Watermarked)
     (live : ℕ) : Type 0 where
@@ -164,8 +164,8 @@ abbrev pub CollectsAging : ℕ → List ℕ → List ℕ → List ℕ → List �
 CollectsAging n before after cards made roots new_roots t u a =
     OfEdition n (λ edition. CollectsAgingOf edition before after cards made roots new_roots t u a) ((after ≡ before) × (made ≡ cards) × (new_roots ≡ roots) × (u ≡ t)) a
 
--- The mutators kept what a young collection by these cards believes; or they did not, and the answer has a fault that is
--- there.
+-- The mutators kept what a young collection by these cards believes; or they did not, and the answer has a fault that
+-- is there.
 abbrev pub ChecksOldOf : Edition → List ℕ → List ℕ → Watermarked → Answer → Type 0
 ChecksOldOf edition words cards t a =
     ((a ≡ done 0) × AreOld edition words t.starts t.watermark × AreCleanCards edition words t.starts t.watermark cards)

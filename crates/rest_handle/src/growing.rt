@@ -48,8 +48,8 @@ fn begin(alloc: Global, edition: Edition, words: &[u64], out: &mut Handle) -> An
     }
 }
 
-/// Begins a survey of these words, of this edition, 1 to 4, that grows: it has marked nothing, and an empty handle keeps
-/// it then. It keeps nothing of the words. If it is refused, the handle stays as it is.
+/// Begins a survey of these words, of this edition, 1 to 4, that grows: it has marked nothing, and an empty handle
+/// keeps it then. It keeps nothing of the words. If it is refused, the handle stays as it is.
 pub fn begin_growing(alloc: Global, edition: u32, words: &[u64], out: &mut Handle) -> Answer
     ensures { BeginsGrowing edition words.now out.old.kept out.new.kept result }
 {
@@ -118,8 +118,9 @@ fn begun(kept: Kept, full: bool, edition: u32, words: &[u64]) -> Turned
     begin_of(tables, edition, words)
 }
 
-/// Begins such a survey by the tables that a handle keeps; another one, which was empty, keeps the survey then, and that
-/// of the tables is empty. Neither this nor what grows then takes memory. If it is refused, both stay as they were.
+/// Begins such a survey by the tables that a handle keeps; another one, which was empty, keeps the survey then, and
+/// that of the tables is empty. Neither this nor what grows then takes memory. If it is refused, both stay as they
+/// were.
 pub fn begin_growing_lent(
     alloc: Global,
     tables: &mut Handle,
@@ -206,10 +207,10 @@ fn also_of(kept: Kept, words: &[u64], more: &[u64]) -> Left
     }
 }
 
-/// Marks what more roots reach in these words, beside what the survey that a handle keeps has marked. The answer has the
-/// number of objects that are kept so far. If these are not as many words as it is of, nothing was done. After another
-/// refusal the survey is over, and the handle keeps its tables: there are too many roots, there is a fault, or memory
-/// ran out.
+/// Marks what more roots reach in these words, beside what the survey that a handle keeps has marked. The answer has
+/// the number of objects that are kept so far. If these are not as many words as it is of, nothing was done. After
+/// another refusal the survey is over, and the handle keeps its tables: there are too many roots, there is a fault, or
+/// memory ran out.
 pub fn grow(alloc: Global, h: &mut Handle, words: &[u64], more: &[u64]) -> Answer
     ensures { Grows words.now more.now h.old.kept h.new.kept result }
 {
@@ -248,8 +249,8 @@ fn values_of(kept: Kept, words: &[u64], ephemerons: &[u64]) -> Left
     }
 }
 
-/// Keeps the values of ephemerons, of three words each, holder, key and value, as soon as the survey that a handle keeps
-/// has kept the other two. Answers and refusals are those of `grow`; a bad root is a value.
+/// Keeps the values of ephemerons, of three words each, holder, key and value, as soon as the survey that a handle
+/// keeps has kept the other two. Answers and refusals are those of `grow`; a bad root is a value.
 pub fn grow_by_values(alloc: Global, h: &mut Handle, words: &[u64], ephemerons: &[u64]) -> Answer
     ensures { GrowsByValues words.now ephemerons.now h.old.kept h.new.kept result }
 {
@@ -301,9 +302,9 @@ fn found_of(alloc: Global, growth: Growth) -> Result<Arc<Places>, Tables>
     }
 }
 
-/// Ends the growth of the survey that a handle keeps; another one, which was empty, keeps the survey of all that was kept
-/// then, and the first one is empty. The answer has the number of live words. It takes a few bytes of memory; if there
-/// are none, the survey is over, and the first handle keeps its tables.
+/// Ends the growth of the survey that a handle keeps; another one, which was empty, keeps the survey of all that was
+/// kept then, and the first one is empty. The answer has the number of live words. It takes a few bytes of memory; if
+/// there are none, the survey is over, and the first handle keeps its tables.
 pub fn settle_growing(alloc: Global, h: &mut Handle, survey: &mut Handle) -> Answer
     ensures { SettlesGrowing h.old.kept h.new.kept survey.old.kept survey.new.kept result }
 {

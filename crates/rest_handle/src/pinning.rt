@@ -53,11 +53,11 @@ fn collect_pinned_of(
 }
 
 /// Collects the heap of these words and roots, of this edition, 1 to 4, within the words, and leaves the objects at the
-/// pins where they are. Each pin keeps its object as a root does; the others slide down around them. The answer has where
-/// the last live object ends. The runs of free words below that are at the front of `runs` then, each as the index of its
-/// first word and the one behind its last word, and `run_count` is how many they are: at most as many as pins. If it is
-/// refused, words, roots, `runs` and `run_count` are as they were: a pin may not be the address of an object, and `runs`
-/// may be too short.
+/// pins where they are. Each pin keeps its object as a root does; the others slide down around them. The answer has
+/// where the last live object ends. The runs of free words below that are at the front of `runs` then, each as the
+/// index of its first word and the one behind its last word, and `run_count` is how many they are: at most as many as
+/// pins. If it is refused, words, roots, `runs` and `run_count` are as they were: a pin may not be the address of an
+/// object, and `runs` may be too short.
 pub fn collect_pinned(
     alloc: Global,
     edition: u32,

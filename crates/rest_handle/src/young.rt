@@ -8,8 +8,8 @@ use heap_layout::{Edition, edition_of};
 use std::alloc::Global;
 use young_heap::{OldFault, OldTables, YoungFault};
 
-/// Makes tables with room for collections of so many words, whose watermark is 0, and puts them into an empty handle. If
-/// memory runs out, it stays empty.
+/// Makes tables with room for collections of so many words, whose watermark is 0, and puts them into an empty handle.
+/// If memory runs out, it stays empty.
 pub fn reserve_old(alloc: Global, words: u64, h: &mut Handle) -> Answer
     ensures { Fills 0 (ReservesOld words) (Unit {0}) h.old.kept h.new.kept result }
 {
@@ -150,11 +150,12 @@ fn collect_young_in(
     }
 }
 
-/// Collects what is young of the heap of these words and roots, of this edition, 1 to 4, within the words, by the tables
-/// that a handle keeps. Card `k`, a byte that is 0 while it is clean, has the 64 words from `64 * k` on. The answer has
-/// the number of words that are there then, which is the watermark: all of them are old, and each card may be clean.
-/// If it is refused, words, roots and watermark are as they were: there are too many words or roots; the tables have
-/// room for fewer words; there are fewer words than the watermark, or fewer cards than they want; or there is a fault.
+/// Collects what is young of the heap of these words and roots, of this edition, 1 to 4, within the words, by the
+/// tables that a handle keeps. Card `k`, a byte that is 0 while it is clean, has the 64 words from `64 * k` on. The
+/// answer has the number of words that are there then, which is the watermark: all of them are old, and each card may
+/// be clean. If it is refused, words, roots and watermark are as they were: there are too many words or roots; the
+/// tables have room for fewer words; there are fewer words than the watermark, or fewer cards than they want; or there
+/// is a fault.
 pub fn collect_young(
     alloc: Global,
     h: &mut Handle,

@@ -45,9 +45,9 @@ pub record AreTaken (edition : Edition) (count : ℕ) (roots heads bits : List �
   pub runs : AreRuns count heads bits
   pub roots_lead : AllKept edition heads roots
 
--- Why they are not: the edition has short objects; or it has not, and there are too many words or roots; or there are not,
--- and there are not two bits for each word; or there are, and the fault is one of these roots and bits. Memory runs out
--- only if they have none.
+-- Why they are not: the edition has short objects; or it has not, and there are too many words or roots; or there are
+-- not, and there are not two bits for each word; or there are, and the fault is one of these roots and bits. Memory
+-- runs out only if they have none.
 abbrev pub IsBitsFaultOf : Edition → ℕ → List ℕ → List ℕ → List ℕ → BitsFault → Type 0
 IsBitsFaultOf edition count roots heads bits TooLarge =
     (most_words edition ≤ most_object_words edition) × ((most_words edition < count) ⊎ (most_roots edition < length roots))
@@ -75,9 +75,9 @@ pub record HasSlid (found : Found) (words roots : List ℕ) : Type 0 where
 abbrev pub HasWeak : Found → List ℕ → Type 0
 HasWeak found words = All (λ mark. All (λ word. is_within found.edition (length words) word ≡ true) (object_at found.edition words mark).weak) found.marks
 
--- The heap of these words and roots was collected into a memory that held `before`, and now holds `after`, by marks that
--- nobody asked: the marked objects slid, each as it is, and among them is each that the roots reach. Where weak words
--- lead to words, the heap is sound, so that what slid is the collected heap.
+-- The heap of these words and roots was collected into a memory that held `before`, and now holds `after`, by marks
+-- that nobody asked: the marked objects slid, each as it is, and among them is each that the roots reach. Where weak
+-- words lead to words, the heap is sound, so that what slid is the collected heap.
 pub record IsCollectedAs (found : Found) (edition : Edition) (words roots marks : List ℕ) (count : ℕ) (new_roots before after : List ℕ) : Type 0 where
   pub edition_is : found.edition ≡ edition
   pub marks_are : found.marks ≡ marks
@@ -90,8 +90,8 @@ pub record IsCollectedAs (found : Found) (edition : Edition) (words roots marks 
 abbrev pub HasCollectedAs : Edition → List ℕ → List ℕ → List ℕ → ℕ → List ℕ → List ℕ → List ℕ → Type 0
 HasCollectedAs edition words roots marks count new_roots before after = (found : Found) × IsCollectedAs found edition words roots marks count new_roots before after
 
--- Why the heap of these words and roots is not collected by these bits into a memory of so many words: they are not taken;
--- or they are, and the live words do not fit; or they fit, and do not slide.
+-- Why the heap of these words and roots is not collected by these bits into a memory of so many words: they are not
+-- taken; or they are, and the live words do not fit; or they fit, and do not slide.
 abbrev pub RefusesByBits : Edition → List ℕ → List ℕ → List ℕ → List ℕ → ℕ → ByBitsFault → Type 0
 RefusesByBits edition words roots heads bits room (Bits fault) = IsBitsFaultOf edition (length words) roots heads bits fault
 RefusesByBits edition words roots heads bits room (NoRoom count) =

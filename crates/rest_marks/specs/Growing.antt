@@ -15,8 +15,8 @@ use Rattle.rest_marks.specs.declared.fault.SurveyFault.TheVariants.{TooLarge, Ba
 abbrev pub roots_on : List ℕ → List ℕ → List ℕ
 roots_on marks more = map from_address marks ++ more
 
--- There are too many more roots; or there are not, and the fault is one of them and of these words, of which the objects
--- at `marks` were marked before, or memory ran out.
+-- There are too many more roots; or there are not, and the fault is one of them and of these words, of which the
+-- objects at `marks` were marked before, or memory ran out.
 abbrev pub IsMoreFaultOf : Edition → List ℕ → List ℕ → List ℕ → SurveyFault → Type 0
 IsMoreFaultOf edition words marks more TooLarge = most_roots edition < length more
 IsMoreFaultOf edition words marks more (BadRoot k) = (length more ≤ most_roots edition) × IsHeapFaultOf edition words more (BadRoot k)
@@ -65,8 +65,8 @@ pub record IsGrownIn (edition : Edition) (words seen queue heads bits : List ℕ
   pub alike : AreAlike words seen bits
   pub grown : IsGrown edition seen queue heads bits
 
--- the tables of a survey of `count` words that may grow, whatever words were seen: bits for so many, and in the queue the
--- objects that were met
+-- the tables of a survey of `count` words that may grow, whatever words were seen: bits for so many, and in the queue
+-- the objects that were met
 pub record AreReady (edition : Edition) (count : ℕ) (queue heads bits : List ℕ) : Type 0 where
   pub few : count ≤ most_words edition
   pub sized : length heads ≡ (count + 63) / 64

@@ -31,8 +31,8 @@ IsOneOf indices i = (k : ℕ) × (k < length indices) × (slice_index indices k 
 abbrev pub AreDisjoint : List ℕ → List ℕ → Type 0
 AreDisjoint one other = (i : ℕ) → bit one i ≡ true → bit other i ≡ false
 
--- Why a lane of `count` words does not take over the objects at these indices: one is past the words; or memory ran out,
--- and the lane has not all of them.
+-- Why a lane of `count` words does not take over the objects at these indices: one is past the words; or memory ran
+-- out, and the lane has not all of them.
 abbrev pub IsTakeFault : ℕ → List ℕ → List ℕ → MeetFault → Type 0
 IsTakeFault count heads indices (BadValue k) = (k < length indices) × (count ≤ slice_index indices k)
 IsTakeFault count heads indices OutOfMemory =

@@ -10,8 +10,8 @@ use Rattle.rest_marks.specs.Meeting.{IsDone}
 use Rattle.rest_marks.specs.Reached.{is_below, IsWordOf}
 
 -- What a marking has met so far: the objects, in the order in which they were met; how many of them, from the first on,
--- were looked at; and the bits of the first words of all of them, and of all words of those that were looked at. `count`
--- are the words of the heap.
+-- were looked at; and the bits of the first words of all of them, and of all words of those that were looked at.
+-- `count` are the words of the heap.
 pub record Looking : Type 0 where
   pub edition : Edition
   pub count : ℕ

@@ -31,8 +31,8 @@ IsMarkingFaultOf edition words roots heads (BadWeak j) =
     × IsStray edition words (slice_index words j)
 IsMarkingFaultOf edition words roots heads OutOfMemory = Unit {0}
 
--- Why marks are refused: the heap is too large; or it is not, and there is not a bit for each word; or there is, and the
--- fault is one of the words and roots, or memory ran out.
+-- Why marks are refused: the heap is too large; or it is not, and there is not a bit for each word; or there is, and
+-- the fault is one of the words and roots, or memory ran out.
 abbrev pub IsMarksFaultOf : Edition → List ℕ → List ℕ → List ℕ → MarksFault → Type 0
 IsMarksFaultOf edition words roots heads TooLarge = (most_words edition < length words) ⊎ (most_roots edition < length roots)
 IsMarksFaultOf edition words roots heads WrongLength = AreFew edition words roots × (length heads ≢ (length words + 63) / 64)

@@ -44,8 +44,8 @@ impl From<AllocError> for SurveyFault {
     }
 }
 
-/// Why words are not surveyed by marks that the caller made. `TooLarge` comes first, then `WrongLength`, then the others.
-/// Among those no order is promised: the fault that is answered is there, and there may be others too.
+/// Why words are not surveyed by marks that the caller made. `TooLarge` comes first, then `WrongLength`, then the
+/// others. Among those no order is promised: the fault that is answered is there, and there may be others too.
 #[derive(Clone, Copy, Debug, PartialEq, Eq, Error)]
 pub enum MarksFault {
     /// There are more words or roots than the edition allows.
@@ -74,8 +74,8 @@ pub enum MarksFault {
     /// nor an immediate.
     #[error("the weak word at {0} leads nowhere")]
     BadWeak(u64),
-    /// An allocation failed. No other fault was met before, there are not too many words or roots, and there are as many
-    /// bits as words.
+    /// An allocation failed. No other fault was met before, there are not too many words or roots, and there are as
+    /// many bits as words.
     #[error("out of memory")]
     OutOfMemory,
 }
@@ -91,8 +91,8 @@ impl From<AllocError> for MarksFault {
     }
 }
 
-/// Why bits that the caller set are not taken: `ShortObjects` comes first, then `TooLarge`, then `WrongLength`, then the
-/// others. Among those no order is promised: the fault that is answered is there, and there may be others too.
+/// Why bits that the caller set are not taken: `ShortObjects` comes first, then `TooLarge`, then `WrongLength`, then
+/// the others. Among those no order is promised: the fault that is answered is there, and there may be others too.
 #[derive(Clone, Copy, Debug, PartialEq, Eq, Error)]
 pub enum BitsFault {
     /// There are more words or roots than a heap of the edition has.
@@ -108,7 +108,8 @@ pub enum BitsFault {
     /// The root with this number is neither null nor the address of a marked object, nor an immediate.
     #[error("root {0} leads to no marked object")]
     BadRoot(u64),
-    /// The word at this index is a first word and not live, or it is live, and neither a first word nor behind a live one.
+    /// The word at this index is a first word and not live, or it is live, and neither a first word nor behind a live
+    /// one.
     #[error("the word at {0} belongs to no run")]
     NotARun(u64),
     /// The bit at this index is behind those of the words, and set.
@@ -161,7 +162,8 @@ pub enum LookFault {
     /// No object waits for these words, or none was met at this index.
     #[error("there is no such object")]
     NoSuchObject,
-    /// The words that were handed in are fewer than these: the header, or the header, the references and the weak words.
+    /// The words that were handed in are fewer than these: the header, or the header, the references and the weak
+    /// words.
     #[error("{0} words are wanted")]
     ShortRun(u64),
     /// The object at this index is longer than an object of the edition may be.
@@ -179,8 +181,8 @@ pub enum LookFault {
     /// The word at this index is a weak word, and neither null nor the address of one of the words, nor an immediate.
     #[error("the weak word at {0} leads nowhere")]
     BadWeak(u64),
-    /// An allocation failed. As many words were handed in as are wanted, and a reference leads to an object that was not
-    /// met.
+    /// An allocation failed. As many words were handed in as are wanted, and a reference leads to an object that was
+    /// not met.
     #[error("out of memory")]
     OutOfMemory,
 }
@@ -200,8 +202,8 @@ pub enum CheckFault {
     /// object that was met, nor an immediate.
     #[error("the reference at {0} leads to no object that was met")]
     Unmarked(u64),
-    /// The word at this index is a weak word of an object that was looked at, and neither null nor the address of one of
-    /// the words, nor an immediate.
+    /// The word at this index is a weak word of an object that was looked at, and neither null nor the address of one
+    /// of the words, nor an immediate.
     #[error("the weak word at {0} leads nowhere")]
     BadWeak(u64),
     /// The bit of the word at this index is set, and the word belongs to no object that was looked at. So an object is

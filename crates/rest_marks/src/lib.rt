@@ -1,5 +1,5 @@
-//! What lives in a heap at rest: what its roots reach, or what marks of the caller's own say, in words, bits and queues that
-//! are lent. Nothing here owns a table or starts a collection; stopped_heap does.
+//! What lives in a heap at rest: what its roots reach, or what marks of the caller's own say, in words, bits and queues
+//! that are lent. Nothing here owns a table or starts a collection; stopped_heap does.
 //!
 //! The modules, in the order in which to read them:
 //!

@@ -29,8 +29,8 @@ fn odd_words(head: u64, block: u64, behind: u64) -> u64
     (head & !block) | (block & !head & !behind)
 }
 
-/// The index of a word that is odd, if there is one: a first word that is not live, or a live word that is neither a first
-/// word nor behind a live one.
+/// The index of a word that is odd, if there is one: a first word that is not live, or a live word that is neither a
+/// first word nor behind a live one.
 pub fn odd_word(heads: &[u64], bits: &[u64]) -> Option<usize>
     requires few { length bits.now ≤ 2 ^ 25 }
     requires same { length heads.now ≡ length bits.now }

@@ -20,9 +20,9 @@ pub(crate) fn dense_words(bits: &[u64]) -> usize
     }
 }
 
-/// Makes `count` references, from index `from` on, lead to where their objects are after the collection. All words below
-/// index `dense` are live, so those that lead below it lead there already. They are not written, and neither are null and
-/// immediates.
+/// Makes `count` references, from index `from` on, lead to where their objects are after the collection. All words
+/// below index `dense` are live, so those that lead below it lead there already. They are not written, and neither are
+/// null and immediates.
 #[inline(always)]
 pub(crate) fn stay(
     edition: Edition,

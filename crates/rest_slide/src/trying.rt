@@ -108,8 +108,8 @@ fn all_below(bits: &[u64], counts: &[u32], i: usize) -> u64
     }
 }
 
-// Whether the object at `start`, which slides to `place`, had so many words when it was surveyed: so many live words are
-// there, none of them is the first word of another object, and the word behind them is not one more. Takes constant
+// Whether the object at `start`, which slides to `place`, had so many words when it was surveyed: so many live words
+// are there, none of them is the first word of another object, and the word behind them is not one more. Takes constant
 // time.
 #[inline(always)]
 fn had_size(

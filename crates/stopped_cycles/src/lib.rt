@@ -2,8 +2,6 @@
 #![tactic(auto)]
 
 mod laws;
-#[cfg(test)]
-mod tests;
 
 pub use laws::{
     collected_in_object_numbers, pinned_in_object_numbers, words_of_no_object_are_zero,

@@ -24,8 +24,8 @@ abbrev pub mixed : Found → List ℕ → List ℕ → List ℕ
 mixed found before words = map (λ i. cond (is_live found.indices i) (slice_index before i) (slice_index words i)) (range_with_len 0 (length words))
 
 -- A survey went on in these words, from what was found before and from more roots. The objects that it found are those
--- that are reached in the mixed words, and it is found there. So if what was found before is found in these words, all is
--- so of these words.
+-- that are reached in the mixed words, and it is found there. So if what was found before is found in these words, all
+-- is so of these words.
 pub record HasGrown (found : Found) (words more : List ℕ) (after : Found) : Type 0 where
   pub edition : after.edition ≡ found.edition
   pub count : after.count ≡ found.count
@@ -59,8 +59,8 @@ IsSeenHeldFaultOf edition words seen marks ephemerons (ObjectPastEnd i) =
 IsSeenHeldFaultOf edition words seen marks ephemerons (Overlap i) = IsHeldFaultOf edition seen marks ephemerons (Overlap i)
 IsSeenHeldFaultOf edition words seen marks ephemerons OutOfMemory = IsHeldFaultOf edition words marks ephemerons OutOfMemory
 
--- Why a survey did not go on from more roots in these words. Said of these words if what was found before is found there,
--- and else of the mixed words.
+-- Why a survey did not go on from more roots in these words. Said of these words if what was found before is found
+-- there, and else of the mixed words.
 pub record IsGrowthFaultOf (found : Found) (words more : List ℕ) (fault : SurveyFault) : Type 0 where
   pub now : IsFoundIn found words → IsMoreFaultOf found.edition words found.marks more fault
   pub mixed_now : (before : List ℕ) → IsFoundIn found before → IsSeenFaultOf found.edition words (mixed found before words) found.marks more fault

@@ -24,7 +24,8 @@ abbrev pub is_lost : Edition → List ℕ → ℕ → Bool
 is_lost edition marks word = not (is_value edition marks word)
 
 -- The guarded words stand in another order: first the `lost` ones that lead to no object that roots and ephemerons hold
--- without them; then the other ones. Both are in the order that they had. The objects that are held are those at `marks`.
+-- without them; then the other ones. Both are in the order that they had. The objects that are held are those at
+-- `marks`.
 pub record IsParting (edition : Edition) (words roots ephemerons before after : List ℕ) (lost : ℕ) (marks : List ℕ) : Type 0 where
   pub held : AreHeldFrom edition words roots ephemerons marks
   pub order : after ≡ filter (is_lost edition marks) before ++ filter (is_value edition marks) before

@@ -45,8 +45,8 @@ IsMarksLentFaultOf edition words roots heads room (marking.ShortTables has) = (h
 IsMarksLentFaultOf edition words roots heads room (marking.Marks fault) =
     IsMarksFaultOf edition words roots heads fault × (fault ≢ refusal.OutOfMemory) × (fault ≢ refusal.TooLarge → length words ≤ room)
 
--- The heap is not collected into a memory of `to` words by tables with this room: that is for fewer words; or the heap is
--- refused, or its live words do not fit, and there is room if it is not too large. Memory never runs out.
+-- The heap is not collected into a memory of `to` words by tables with this room: that is for fewer words; or the heap
+-- is refused, or its live words do not fit, and there is room if it is not too large. Memory never runs out.
 abbrev pub RefusesLent : Edition → List ℕ → List ℕ → ℕ → ℕ → CollectLentFault → Type 0
 RefusesLent edition words roots room to (collecting.ShortTables has) = (has ≡ room) × AreShort edition words roots room
 RefusesLent edition words roots room to (collecting.Collect fault) =

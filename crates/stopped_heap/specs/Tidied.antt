@@ -6,8 +6,8 @@ use Rattle.heap_layout.specs.Heap.{header_at}
 use Rattle.rest_marks.specs.Places.{owner, Found}
 use Rattle.rest_marks.specs.Reached.{is_within}
 
--- whether word j is a weak word of the object at index m, and wild: neither an immediate nor null nor the address of one
--- of the words
+-- whether word j is a weak word of the object at index m, and wild: neither an immediate nor null nor the address of
+-- one of the words
 abbrev pub is_wild_of : Found → List ℕ → ℕ → ℕ → Bool
 is_wild_of found words m j =
     nat_lt (m + refs_of (header_at found.edition words m)) j

@@ -16,8 +16,8 @@ use rest_marks::{
 };
 use std::alloc::Global;
 
-// Asks whether the object at index `i` is as it must be, and sets the bits of its words in `taken`, none of which may be
-// set.
+// Asks whether the object at index `i` is as it must be, and sets the bits of its words in `taken`, none of which may
+// be set.
 #[inline(always)]
 fn ask(
     edition: Edition,
@@ -125,11 +125,11 @@ fn ask_whole(
 }
 
 impl Looks {
-    /// Asks of all objects that were looked at, at once, whether they are in these words as they must be: a marking that
-    /// is right passes at any time when no object was written to since it was looked at. This is for debugging. It looks
-    /// at every object, and believes nothing that was said of cards or barriers. It takes memory for a bit a word, and
-    /// leaves the marking as it was. Err with `WrongLength` if there are not as many words as the marking has; else
-    /// with a fault that is there, or if memory runs out.
+    /// Asks of all objects that were looked at, at once, whether they are in these words as they must be: a marking
+    /// that is right passes at any time when no object was written to since it was looked at. This is for debugging. It
+    /// looks at every object, and believes nothing that was said of cards or barriers. It takes memory for a bit a
+    /// word, and leaves the marking as it was. Err with `WrongLength` if there are not as many words as the marking
+    /// has; else with a fault that is there, or if memory runs out.
     pub fn check(&self, alloc: Global, words: &[u64]) -> Result<(), CheckFault>
         ensures looked { OnOk result (AreLooked self.now words.now) }
         ensures fault { IfErr result (IsCheckFault self.now words.now) }

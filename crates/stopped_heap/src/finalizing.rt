@@ -1,10 +1,10 @@
-//! Finalizers in order, and weak words of both kinds. An object waits for its finalizer if nothing keeps it. It is ready
-//! if no object that waits leads to it: its finalizer then finds whole all that the object leads to, and runs before
-//! the finalizers of what waits there.
+//! Finalizers in order, and weak words of both kinds. An object waits for its finalizer if nothing keeps it. It is
+//! ready if no object that waits leads to it: its finalizer then finds whole all that the object leads to, and runs
+//! before the finalizers of what waits there.
 //!
 //! A *short* weak word becomes null before finalizers see its object: `Growing::clear_dead` asks what is kept so far.
-//! A *long* one still leads to an object that a finalizer brings back: `Survey::forward_weak`, once all is settled. So a
-//! runtime marks its roots (`also`, `also_values`), clears its short weak words, keeps what its finalizers are to see
+//! A *long* one still leads to an object that a finalizer brings back: `Survey::forward_weak`, once all is settled. So
+//! a runtime marks its roots (`also`, `also_values`), clears its short weak words, keeps what its finalizers are to see
 //! (`also_ready`, and `also_values` again), settles, and forwards its long ones, and its short ones that are left.
 ghost use Rattle.std.specs.Prelude.{◌≡◌, ◌≢◌, ℕ, ◌+◌, ◌-◌, ◌^◌, ◌<◌, ◌≤◌, List, ◌++◌, map, filter, length, slice_index, take, All, IfErr, IfOk, OnOk};
 ghost use Rattle.heap_layout.specs.Heap.{from_address, object_at, IsValue};
@@ -229,16 +229,16 @@ impl<'w> Growing<'w> {
     /// objects that are not kept so far are of objects that wait. An object that waits is ready if no object that waits
     /// leads to it, through whatever objects. The words of the ready ones come first, and the other ones behind them,
     /// both in the order that they had. One that is not ready waits on: another one leads to it, or it leads to itself,
-    /// directly or in a circle; those in a circle are never ready, so their finalizers never run. A word that is null or
-    /// an immediate is not ready either, nor is one whose object is kept so far.
+    /// directly or in a circle; those in a circle are never ready, so their finalizers never run. A word that is null
+    /// or an immediate is not ready either, nor is one whose object is kept so far.
     ///
     /// All that the words reach is kept then: the ready ones, so that they are seen once more, and what they lead to.
     /// That is one finalizer of a chain in each collection.
     ///
     /// Err with `TooLarge` if there are more words than there may be roots; if not, with a fault that is there, or with
     /// `OutOfMemory`: a list of the words, one of the references of the objects that wait and one of the answer are
-    /// made, with lent tables too. `BadRoot` has the number of a word. Then the survey is over, and its tables come back,
-    /// with the room that they had.
+    /// made, with lent tables too. `BadRoot` has the number of a word. Then the survey is over, and its tables come
+    /// back, with the room that they had.
     pub fn also_ready(self, alloc: Global, waiting: &[u64]) -> Result<Ordered<'w>, NotGrown>
         ensures ordered { IfOk result (λ found. AreOrdered self.entry.edition self.entry.words self.entry.marks waiting.now found.order.items found.ready) }
         ensures grown { IfOk result (λ found. AreReached self.entry.edition self.entry.words (roots_on self.entry.marks waiting.now) found.growing.marks) }

@@ -51,12 +51,13 @@ fn check_bits(
 }
 
 impl Places {
-    /// What a survey by marks of the caller's own would find, told by bits that the caller set: `heads` has those of the
-    /// first words of marked objects, `bits` those of all their words, each in `count.div_ceil(64)` blocks, bit `i % 64`
-    /// of block `i / 64` for the word at index `i`. It looks at no word of the heap. What a survey asks of the objects,
-    /// `try_slide` asks: if all parts slide, `slid_is_sound` says that the heap is sound as it is then, and that nothing
-    /// which the roots reach is lost. Err with `ShortObjects`, then `TooLarge`, then `WrongLength`, each asked where the
-    /// one before is not there; if none of them is, with a fault that is there; if none is, with `OutOfMemory`.
+    /// What a survey by marks of the caller's own would find, told by bits that the caller set: `heads` has those of
+    /// the first words of marked objects, `bits` those of all their words, each in `count.div_ceil(64)` blocks, bit `i
+    /// % 64` of block `i / 64` for the word at index `i`. It looks at no word of the heap. What a survey asks of the
+    /// objects, `try_slide` asks: if all parts slide, `slid_is_sound` says that the heap is sound as it is then, and
+    /// that nothing which the roots reach is lost. Err with `ShortObjects`, then `TooLarge`, then `WrongLength`, each
+    /// asked where the one before is not there; if none of them is, with a fault that is there; if none is, with
+    /// `OutOfMemory`.
     pub fn of_bits(
         alloc: Global,
         edition: Edition,
@@ -94,10 +95,10 @@ impl Places {
     }
 }
 
-/// What slid whole was sound: if `Places::try_slide` filled all live words out of some words, and the roots lead to live
-/// objects, each object that the roots reach in these words is live, whoever marked, and whatever was written before the
-/// slide. If weak words lead to words too, all that is known of a survey of these words is known of what was found. Two
-/// parts, one behind the other, are a part.
+/// What slid whole was sound: if `Places::try_slide` filled all live words out of some words, and the roots lead to
+/// live objects, each object that the roots reach in these words is live, whoever marked, and whatever was written
+/// before the slide. If weak words lead to words too, all that is known of a survey of these words is known of what was
+/// found. Two parts, one behind the other, are a part.
 pub fn slid_is_sound()
     ensures reached { (found : Found) (before : Heap) (words roots : List ℕ) → IsFoundOf found before → HasSlid found words roots
         → (i : ℕ) → IsReachedFrom found.edition words roots i → Contains found.marks i }
@@ -109,9 +110,10 @@ pub fn slid_is_sound()
 
 /// Collects the heap of these words and roots by bits that the caller set, as `Places::of_bits` takes them: slides the
 /// marked objects to the beginning of `to`, and makes the roots lead there. Ok with the number of words that are there
-/// then; each object that the roots reach is among them, whoever marked. Err if the bits are not taken, if the live words
-/// do not fit, or if the slide finds that an object is not as the bits say, or leads to one that is not marked; then the
-/// roots are as they were, and `to` may have some of the words. So the heap can still be collected by its roots.
+/// then; each object that the roots reach is among them, whoever marked. Err if the bits are not taken, if the live
+/// words do not fit, or if the slide finds that an object is not as the bits say, or leads to one that is not marked;
+/// then the roots are as they were, and `to` may have some of the words. So the heap can still be collected by its
+/// roots.
 pub fn collect_by_bits(
     alloc: Global,
     edition: Edition,

@@ -250,11 +250,12 @@ impl<'w> Growing<'w> {
     /// and key are kept then, and so on; and all that they reach. An ephemeron is three words, holder, key and value;
     /// words behind the last three are not looked at. A holder or key that is null is not kept.
     ///
-    /// Each round asks all of them, and the last one finds none. After some rounds that kept little it looks up what they
-    /// kept in an index, of 8 bytes an ephemeron, which stays as long as the survey. So it costs as the ephemerons and
-    /// what they keep, times a logarithm. Lent tables have room for an index of one ephemeron in 64 words; with more, or
-    /// without memory, there are rounds alone. Err with a fault that is there, or with `OutOfMemory`, which never comes if
-    /// the tables have room for the words. Then the survey is over, and its tables come back, with the room that they had.
+    /// Each round asks all of them, and the last one finds none. After some rounds that kept little it looks up what
+    /// they kept in an index, of 8 bytes an ephemeron, which stays as long as the survey. So it costs as the ephemerons
+    /// and what they keep, times a logarithm. Lent tables have room for an index of one ephemeron in 64 words; with
+    /// more, or without memory, there are rounds alone. Err with a fault that is there, or with `OutOfMemory`, which
+    /// never comes if the tables have room for the words. Then the survey is over, and its tables come back, with the
+    /// room that they had.
     pub fn also_values(self, ephemerons: &[u64]) -> Result<Growing<'w>, NotGrown>
         ensures held { IfOk result (λ after. AreHeld self.entry.edition self.entry.words self.entry.marks ephemerons.now after.marks) }
         ensures words { IfOk result (λ after. after.words ≡ self.entry.words) }

@@ -133,8 +133,8 @@ impl Growth {
 
     /// Marks what more roots reach, beside what is kept so far. It looks at no word of an object that is kept already.
     ///
-    /// Err with `WrongLength` if there are not as many words as it has; then it comes back as it was. If there are, with
-    /// `TooLarge` if the more roots are too many for the edition; if not, with a fault that is there, or with
+    /// Err with `WrongLength` if there are not as many words as it has; then it comes back as it was. If there are,
+    /// with `TooLarge` if the more roots are too many for the edition; if not, with a fault that is there, or with
     /// `OutOfMemory`, which never comes if the tables have room for the words. Then the survey is over, and its tables
     /// come back, with the room that they had.
     pub fn also(self, words: &[u64], more: &[u64]) -> Result<Growth, NotGrowth>

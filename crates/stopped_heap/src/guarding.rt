@@ -122,9 +122,9 @@ pub(crate) fn part(
 /// holder or key that is null is not held; words behind the last three are not looked at.
 ///
 /// Err with `TooLarge` if there are more words or roots than the edition allows; if not, with a fault that is there, or
-/// with `OutOfMemory`. `TooLarge` comes also if more words are lost than there may be roots. `BadRoot` has the number of a
-/// word among the roots, the ephemerons and the guarded words, counted one behind the other; of the ephemerons it is a
-/// value.
+/// with `OutOfMemory`. `TooLarge` comes also if more words are lost than there may be roots. `BadRoot` has the number
+/// of a word among the roots, the ephemerons and the guarded words, counted one behind the other; of the ephemerons it
+/// is a value.
 pub fn survey_guarded<'w>(
     alloc: Global,
     edition: Edition,

@@ -222,8 +222,8 @@ impl Lane {
     }
 
     /// Both lanes together, as one: first the objects at which one of them looked, then those that wait in either. Err
-    /// with `OtherHeap` if they are not of heaps of one edition and of as many words; else with a word that both have, of
-    /// an object that both met or of objects at which they looked; else if memory runs out. Both lanes end then.
+    /// with `OtherHeap` if they are not of heaps of one edition and of as many words; else with a word that both have,
+    /// of an object that both met or of objects at which they looked; else if memory runs out. Both lanes end then.
     pub fn join(self, other: Lane) -> Result<Lane, JoinFault>
         ensures edition { IfOk result (λ lane. lane.own.edition ≡ self.own.edition) }
         ensures count { IfOk result (λ lane. lane.own.count ≡ self.own.count) }
@@ -287,8 +287,8 @@ impl Lane {
     }
 
     /// The whole marking, once all its lanes are joined into this one: then each object that a lane knows is one that a
-    /// lane met itself. Err with a known object that the lane has not, since it is that of a lane that was not joined, or
-    /// of none. Then the marking ends.
+    /// lane met itself. Err with a known object that the lane has not, since it is that of a lane that was not joined,
+    /// or of none. Then the marking ends.
     pub fn whole(self) -> Result<Looks, Missing>
         ensures same { IfOk result (λ looks. looks ≡ self.own) }
         ensures all { IfOk result (λ _. (i : ℕ) → bit self.known i ≡ true → bit self.own.heads i ≡ true) }

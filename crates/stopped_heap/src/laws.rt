@@ -102,8 +102,8 @@ pub fn found_has_no_fault()
 
 /// A survey that grows by some lists of roots, one after the other, keeps at last what all these roots reach together,
 /// however many lists they are: what one survey of all these roots marks. So it does not matter how they are handed in,
-/// and `settle` changes nothing of it. Of a `Growth` this is so if the words stay the same. It is then found alike by one
-/// survey of all these roots, and each call of `Places` answers the same.
+/// and `settle` changes nothing of it. Of a `Growth` this is so if the words stay the same. It is then found alike by
+/// one survey of all these roots, and each call of `Places` answers the same.
 pub fn steps_are_one()
     ensures growing { (edition : Edition) (words : List ℕ) (steps : List Step) → AreSteps edition words [] steps
         → AreReached edition words (roots_of_all steps) (kept_at_last [] steps) }

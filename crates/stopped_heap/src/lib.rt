@@ -60,8 +60,6 @@ mod regrowing;
 mod survey;
 mod survey_by_threads;
 mod tables;
-#[cfg(test)]
-mod tests;
 mod threads;
 mod tidied;
 

@@ -23,8 +23,8 @@ use std::marker::Model;
 
 /// A marking that goes on: which objects were met, and which of them were looked at. Contracts see a `Looking`.
 /// `AreLooked looking words` says that the objects which were looked at are, in these words, as they must be. Each look
-/// carries this from words to words, whatever they are: so at the end it holds of the words of then, if each object that
-/// was looked at is as it was at its last look.
+/// carries this from words to words, whatever they are: so at the end it holds of the words of then, if each object
+/// that was looked at is as it was at its last look.
 #[derive(Drop)]
 pub struct Looks {
     pub(crate) edition: Edition,
@@ -129,8 +129,8 @@ impl Looks {
     }
 
     /// Meets the objects to which these values lead, those that were not met: roots as they are now, or the addresses
-    /// of new objects. They wait then. Err with the number of a value that leads to none of the words, or if memory runs
-    /// out; the marking ends then.
+    /// of new objects. They wait then. Err with the number of a value that leads to none of the words, or if memory
+    /// runs out; the marking ends then.
     pub fn meet(self, values: &[u64]) -> Result<Looks, MeetFault>
         ensures edition { IfOk result (λ looks. looks.edition ≡ self.edition) }
         ensures count { IfOk result (λ looks. looks.count ≡ self.count) }
@@ -204,11 +204,11 @@ impl Looks {
         })
     }
 
-    /// Looks at the next objects that wait, in the order in which they wait, one for each row. The rows stand one behind
-    /// the other. A row has the header, the references and the weak words of its object, as they are now, and no data
-    /// words. In all words in which these stand there, and the objects that were looked at before are as they must be,
-    /// so are those that were looked at then. Err with a fault that is there: that of a row, after those before it were
-    /// looked at. The marking ends then.
+    /// Looks at the next objects that wait, in the order in which they wait, one for each row. The rows stand one
+    /// behind the other. A row has the header, the references and the weak words of its object, as they are now, and no
+    /// data words. In all words in which these stand there, and the objects that were looked at before are as they must
+    /// be, so are those that were looked at then. Err with a fault that is there: that of a row, after those before it
+    /// were looked at. The marking ends then.
     pub fn look_rows(self, rows: &[u64]) -> Result<Looks, LookFault>
         ensures edition { IfOk result (λ looks. looks.edition ≡ self.edition) }
         ensures count { IfOk result (λ looks. looks.count ≡ self.count) }
@@ -285,10 +285,10 @@ impl Looks {
         })
     }
 
-    /// Ends the marking, when no object waits: what a survey by marks would find. It looks at no word of the heap, so it
-    /// costs by the bits and the roots. If the objects that were looked at are in these words as they must be, and the
-    /// roots lead to objects that were met, it is found of the heap of these words and roots: then no part that slides is
-    /// refused. And whether or not they are, `slid_is_sound` says what a slide of all parts shows.
+    /// Ends the marking, when no object waits: what a survey by marks would find. It looks at no word of the heap, so
+    /// it costs by the bits and the roots. If the objects that were looked at are in these words as they must be, and
+    /// the roots lead to objects that were met, it is found of the heap of these words and roots: then no part that
+    /// slides is refused. And whether or not they are, `slid_is_sound` says what a slide of all parts shows.
     pub fn finish(self, alloc: Global, roots: &[u64]) -> Result<Places, FinishFault>
         ensures edition { IfOk result (λ places. places.edition ≡ self.edition) }
         ensures count { IfOk result (λ places. places.count ≡ self.count) }
@@ -315,14 +315,16 @@ impl Looks {
     }
 }
 
-/// Where nobody wrote since to the objects that were looked at, but to data words, what is known of the words of before is
-/// known of those of now. So with `look_again` of each object to which somebody wrote, it is known of the words of now.
+/// Where nobody wrote since to the objects that were looked at, but to data words, what is known of the words of before
+/// is known of those of now. So with `look_again` of each object to which somebody wrote, it is known of the words of
+/// now.
 pub fn same_is_looked()
     ensures { (looking : Looking) (before now : List ℕ) → length before ≡ length now → AreSame looking before now → AreLooked looking before → AreLooked looking now }
 {}
 
 /// An object none of whose cards was written to is the same. A card has 64 words: `clean` says of which nobody wrote to
-/// since. So a runtime whose stores mark a card looks again at the objects with a word on such a card, and at no others.
+/// since. So a runtime whose stores mark a card looks again at the objects with a word on such a card, and at no
+/// others.
 pub fn clean_is_same()
     ensures { (edition : Edition) (before now : List ℕ) (clean : ℕ → Bool) (i : ℕ) → length before ≡ length now
         → ((j : ℕ) → j < length before → clean (j / 64) ≡ true → slice_index before j ≡ slice_index now j) → IsPlaced edition before i

@@ -32,8 +32,8 @@ impl<'w> Survey<'w> {
     /// Goes on with what was found, so that more roots and ephemerons are marked beside it, whoever marked it: threads,
     /// or marks of the caller's own. It looks at each bit of the first words, and at no word of the heap.
     ///
-    /// Err with the survey as it was if there is no memory for the numbers of the kept objects, 4 bytes each. That never
-    /// comes if its tables have room for the words; then it takes no memory.
+    /// Err with the survey as it was if there is no memory for the numbers of the kept objects, 4 bytes each. That
+    /// never comes if its tables have room for the words; then it takes no memory.
     pub fn grow(self) -> Result<Growing<'w>, Survey<'w>>
         ensures same { IfOk result (λ growing. growing ≡ self.entry) }
         ensures back { IfErr result (λ survey. survey ≡ self.entry) }

@@ -7,11 +7,14 @@
 //! - `next_heaps`, `three_objects`, `weak_words`, `images`, `limits`: the next heap and its image.
 //! - `mark_texts`, `new_roots`, `reachable_marks`, `threads`: how it is marked.
 //! - `past_cycles`, `random_chains`, `long_life`, `audited_cycles`: cycles in a row.
+//! - `collected_in_three_ways`: a cycle beside collections at rest.
 //! - `refused_memory`: memory that is refused.
 #![tactic(auto)]
 
 #[cfg(test)]
 mod audited_cycles;
+#[cfg(test)]
+mod collected_in_three_ways;
 #[cfg(test)]
 mod expected;
 #[cfg(test)]

@@ -7,7 +7,7 @@ use heap_layout::{Edition, LayoutFault, MarkedHeap};
 use std::alloc::Global;
 use std::process::Abort;
 use std::thread::Threads;
-use test_support::{At, F, THREE};
+use test_support::{At, F, three_words};
 
 // The first object's data word is shown and a new object is stored. The second cycle shows the data word again.
 const FIRST: &[u8] =
@@ -81,7 +81,7 @@ fn expect_shown(rt: &impl Abort, stopped: &CyclesStopped) {
 
 // The cycles, or `None` if memory was refused before they began.
 fn cycles(rt: &(impl Abort + Threads + Sync), alloc: Global) -> Option<Result<u64, CyclesStopped>> {
-    let words = THREE.to_vec(alloc).ok()?;
+    let words = three_words().to_vec(alloc).ok()?;
     let marks = [0, 5].to_vec(alloc).ok()?;
     let roots = [F + 5].to_vec(alloc).ok()?;
     let heap = MarkedHeap::from_parts_of(Edition::One, words, marks, roots).ok()?;

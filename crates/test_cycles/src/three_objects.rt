@@ -5,7 +5,7 @@ use crate::expected::{expect_eq, expect_so};
 use crate::next_heaps::{first_page, follow, followed, ran, three};
 use comp_access::Refusal;
 use comp_trace::{CycleFault, Ran, TraceFault, parse, replay_cycles};
-use heap_layout::LayoutFault;
+use heap_layout::{Header, LayoutFault};
 use page_plan::Plan;
 use std::alloc::Global;
 use std::process::Abort;
@@ -19,13 +19,15 @@ pub const LINKED: &[u8] = b"0 root 0 0\n0 new 1 0 0 9\n0 store 0 0 1\n";
 const PUT: &[u8] = b"0 root 0 0\n0 load 1 0 0\n0 put 1 0 1\n";
 
 // The words of the next heap that are not 0, each with its index.
-const WORDS: [(usize, u64); 5] = [
-    (0, 4_295_032_832),
-    (1, 11),
-    (2, 12_884_901_889),
-    (3, F + 64),
-    (64, 38_654_705_664),
-];
+fn words() -> [(usize, u64); 5] {
+    [
+        (0, Header::new(0, 1, 1).word()),
+        (1, 11),
+        (2, Header::new(1, 0, 3).word()),
+        (3, F + 64),
+        (64, Header::new(0, 0, 9).word()),
+    ]
+}
 
 /// A run of that text over the three objects.
 pub fn linked(rt: &(impl Abort + Threads + Sync), alloc: Global) -> Ran
@@ -36,9 +38,9 @@ pub fn linked(rt: &(impl Abort + Threads + Sync), alloc: Global) -> Ran
 
 // The word at an index of the next heap.
 fn wanted(index: usize) -> u64 {
-    for (at, word) in &WORDS {
-        if *at == index {
-            return *word;
+    for (at, word) in words() {
+        if at == index {
+            return word;
         }
     }
     0
@@ -60,9 +62,19 @@ fn next_heap_has_these_words(rt: HostRuntime) {
     expect_eq(&rt, At::new("first", 0), second.first_object(0), Some(2));
     expect_eq(&rt, At::new("root", 0), second.forward(F + 2), Some(T));
     let page = first_page(&rt, alloc, &second);
-    expect_eq(&rt, At::new("page", 0), page.get(0), 12_884_901_889);
+    expect_eq(
+        &rt,
+        At::new("page", 0),
+        page.get(0),
+        Header::new(1, 0, 3).word(),
+    );
     expect_eq(&rt, At::new("page", 1), page.get(1), T + 2);
-    expect_eq(&rt, At::new("page", 2), page.get(2), 38_654_705_664);
+    expect_eq(
+        &rt,
+        At::new("page", 2),
+        page.get(2),
+        Header::new(0, 0, 9).word(),
+    );
     for k in 3..64 {
         expect_eq(&rt, At::new("page", usize::from(k)), page.get(k), 0);
     }

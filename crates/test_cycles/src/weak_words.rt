@@ -2,19 +2,19 @@
 use crate::expected::expect_eq;
 use crate::images::image;
 use crate::next_heaps::{first_page, follow, ran};
-use heap_layout::{Edition, MarkedHeap};
+use heap_layout::{Edition, Header, MarkedHeap};
 use page_plan::Plan;
 use std::alloc::Global;
 use std::process::Abort;
 use std::thread::Threads;
-use test_support::{At, F, T, WEAK, heap_of};
+use test_support::{At, F, T, heap_of, weak_words};
 
 /// The editions whose objects may have weak words.
 pub static EDITIONS: [Edition; 2] = [Edition::Two, Edition::Three];
 
 /// The heap with weak words, with this root.
 pub fn weak_heap(rt: &impl Abort, alloc: Global, edition: Edition, root: u64) -> MarkedHeap {
-    heap_of(alloc, edition, &WEAK, &[0, 5], &[root]).expect(rt, "a heap")
+    heap_of(alloc, edition, &weak_words(), &[0, 5], &[root]).expect(rt, "a heap")
 }
 
 // The next heap after a cycle without lines, with these marks.
@@ -38,7 +38,14 @@ fn expect_forwarded(rt: &(impl Abort + Threads + Sync), alloc: Global, edition: 
     let heap = next(rt, alloc, edition, F + 5, &[0, 4]);
     expect_eq(rt, At::new("edition", 0), heap.edition(), edition);
     expect_eq(rt, At::new("words", 0), heap.words().len(), 64);
-    let first = [281_483_566_710_784, 0, F + 4, 9, 844_424_930_131_969, F];
+    let first = [
+        Header::new_weak(0, 2, 1, 1).word(),
+        0,
+        F + 4,
+        9,
+        Header::new_weak(1, 0, 0, 3).word(),
+        F,
+    ];
     for (index, word) in first.iter().enumerate() {
         expect_word(rt, &heap, index, *word);
     }

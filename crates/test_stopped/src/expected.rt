@@ -13,15 +13,15 @@ pub fn expect_eq<T: Copy + PartialEq + Debug>(rt: &impl Abort, at: At, found: T,
     assert_eq!(rt; found, wanted, "{at}");
 }
 
+/// Fails at `at`, or at one of the rows behind it, unless both are equal, word for word.
+pub fn expect_words_at(rt: &impl Abort, at: At, found: &[u64], wanted: &[u64]) {
+    expect_eq(rt, at, found.len(), wanted.len());
+    for (row, word) in found.iter().enumerate() {
+        expect_eq(rt, at.after(row), Some(*word), wanted.get(row).copied());
+    }
+}
+
 /// Fails at a row of the case unless both are equal, word for word.
 pub fn expect_words(rt: &impl Abort, case: &str, found: &[u64], wanted: &[u64]) {
-    expect_eq(rt, At::new(case, 0), found.len(), wanted.len());
-    for (row, word) in found.iter().enumerate() {
-        expect_eq(
-            rt,
-            At::new(case, row),
-            Some(*word),
-            wanted.get(row).copied(),
-        );
-    }
+    expect_words_at(rt, At::new(case, 0), found, wanted);
 }

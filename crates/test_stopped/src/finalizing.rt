@@ -3,8 +3,8 @@ use heap_layout::{Edition, FROM_SPACE as F, Header};
 use std::process::Abort;
 use stopped_heap::{Growing, SurveyFault, Tables};
 
-// Objects of one word, and of a header and one reference: that at 0 leads to that at 2, which leads to that at 4; those at
-// 5 and 7 lead to each other; that at 9 to itself; that at 12 to that at 4. Those at 4, 11 and 14 have one word.
+// Objects of one word, and of a header and one reference: that at 0 leads to that at 2, which leads to that at 4; those
+// at 5 and 7 lead to each other; that at 9 to itself; that at 12 to that at 4. Those at 4, 11 and 14 have one word.
 fn waiting_row() -> [u64; 15] {
     let one = Header::new_weak(0, 0, 0, 1).word();
     let to = Header::new_weak(1, 0, 0, 2).word();

@@ -74,8 +74,6 @@ mod remembering;
 mod shape;
 mod sliding;
 mod sliding_down;
-#[cfg(test)]
-mod tests;
 mod young;
 
 pub use checking::are_old;
